@@ -1,0 +1,9 @@
+pub mod BytesLemmas
+pub mod DocumentLemmas
+pub mod FieldLemmas
+pub mod MapLemmas
+pub mod OrderLemmas
+pub mod SizeLemmas
+mod ComparisonLemmas
+mod SearchLemmas
+mod WholeLemmas

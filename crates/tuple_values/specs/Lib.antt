@@ -1,0 +1,9 @@
+pub mod Document
+pub mod Codes
+pub mod Views
+pub mod Falls
+pub mod Order
+pub mod Whole
+pub mod Kinds
+pub mod Sizes
+pub mod Keys

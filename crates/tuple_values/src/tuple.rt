@@ -1,0 +1,133 @@
+// A tuple as a finite map.
+ghost use Rattle.std.specs.Prelude.{◌≡◌, ◌≢◌, ◌<◌, [], IfOk, IfErr, OnOk, OnErr, filter, length, option_map, slice_index_or, Some};
+ghost use Rattle.std.specs.Option.{option_or};
+ghost use Rattle.std.specs.List.Sorted.{IsSearchInRange};
+ghost use Rattle.std.specs.declared.cmp.Ordering.TheVariants.{Equal};
+ghost use Rattle.tuple_values.specs.Document.{ByteList, bytes_cmp, Datum, Doc, Rises, value_at, put, without, over, is_named, IsAt, IsGap, datum_depth, doc_depth};
+ghost use Rattle.tuple_values.specs.Views.{datum_of, doc_of};
+
+use crate::value::Field;
+use crate::{FieldList, Memory, Text, TryCopy, Tuple, Value};
+use std::alloc::Global;
+
+impl Tuple {
+    /// The tuple without fields.
+    pub fn empty(alloc: Global) -> Tuple
+        ensures { result ≡ [] }
+    {
+        Tuple {
+            fields: Vec::new(alloc),
+        }
+    }
+
+    /// The named field's value; none exactly where the field isn't there.
+    pub fn get(&self, name: &str) -> Option<&Value>
+        ensures { option_map (λ v. datum_of v.now) result ≡ value_at name.now self.now }
+    {
+        match place_of(&self.fields, name) {
+            Ok(at) => Some(&self.fields[at].value),
+            Err(_) => None,
+        }
+    }
+
+    /// How many fields there are.
+    pub fn count(&self) -> u64
+        ensures count { result ≡ length self.now }
+        ensures rises { Rises self.now }
+    {
+        self.fields.len() as u64
+    }
+
+    /// The name of the k-th field, counted from 0 in the order of the names' bytes.
+    pub fn name(&self, k: u64) -> &Text
+        requires { k < length self.now }
+        ensures { (d : _) → result.now ≡ (slice_index_or self.now k d).0 }
+    {
+        &self.fields[k as usize].name
+    }
+
+    /// The value of the k-th field, counted as in `name`.
+    pub fn value(&self, k: u64) -> &Value
+        requires { k < length self.now }
+        ensures value { (d : _) → datum_of result.now ≡ (slice_index_or self.now k d).1 }
+        ensures smaller { datum_depth (datum_of result.now) < doc_depth self.now }
+    {
+        &self.fields[k as usize].value
+    }
+
+    /// Puts a value under a name, in place of the one that is there.
+    pub fn put(&mut self, name: Text, value: Value) -> Result<(), Memory>
+        ensures ok { OnOk result (self.new ≡ put name (datum_of value) self.old) }
+        ensures err { OnErr result (self.new ≡ self.old) }
+    {
+        match place_of(&self.fields, name.as_str()) {
+            Ok(at) => {
+                self.fields[at] = Field { name, value };
+                Ok(())
+            }
+            Err(at) => Ok(self.fields.insert(at, Field { name, value })?),
+        }
+    }
+
+    /// Takes the named field out; none exactly where it isn't there.
+    pub fn remove(&mut self, name: &str) -> Option<Value>
+        ensures value { option_map datum_of result ≡ value_at name.now self.old }
+        ensures rest { self.new ≡ without name.now self.old }
+    {
+        match place_of(&self.fields, name) {
+            Ok(at) => Some(self.fields.remove(at).value),
+            Err(_) => None,
+        }
+    }
+
+    /// A copy with the named fields alone.
+    pub fn cut(&self, alloc: Global, names: &FieldList) -> Result<Tuple, Memory>
+        ensures { IfOk result (λ t. t ≡ filter (λ f. is_named f.0 names.now) self.now) }
+    {
+        let mut fields = Vec::new(alloc);
+        for field in &self.fields {
+            if names.contains(field.name.as_str()) {
+                fields.push(field.copy(alloc)?)?;
+            }
+        }
+        Ok(Tuple { fields })
+    }
+
+    /// A copy of the fields of both; the right one's value where names meet.
+    pub fn over(&self, alloc: Global, right: &Tuple) -> Result<Tuple, Memory>
+        ensures { IfOk result (λ t. t ≡ over self.now right.now) }
+    {
+        let mut all = self.copy(alloc)?;
+        for field in &right.fields {
+            all.put(field.name.copy(alloc)?, field.value.copy(alloc)?)?;
+        }
+        Ok(all)
+    }
+}
+
+// Where the name is among fields in order, or where it would go.
+fn place_of(fields: &[Field], name: &str) -> Result<usize, usize>
+    requires { Rises (doc_of fields.now) }
+    ensures bound { IsSearchInRange result (length fields.now) }
+    ensures found { IfOk result (λ at. IsAt name.now at (doc_of fields.now)) }
+    ensures absent { IfErr result (λ at. IsGap name.now at (doc_of fields.now)) }
+{
+    fields.binary_search_by(
+        |field|
+            ensures { result ≡ bytes_cmp field.now.name name.entry.now }
+        { field.name.as_str().cmp(name) },
+    )
+}
+
+/// A tuple is a finite map: what a look-up finds after `put` and `over`, and that two tuples in
+/// order whose look-ups all agree are the same.
+pub fn tuples_are_maps()
+    ensures put_here { (name : ByteList) (value : Datum) (doc : Doc)
+        → value_at name (put name value doc) ≡ Some value }
+    ensures put_elsewhere { (other name : ByteList) (value : Datum) (doc : Doc)
+        → bytes_cmp name other ≢ Equal → value_at other (put name value doc) ≡ value_at other doc }
+    ensures over_either { (name : ByteList) (left right : Doc) → Rises right
+        → value_at name (over left right) ≡ option_or (value_at name right) (value_at name left) }
+    ensures same { (left right : Doc) → Rises left → Rises right
+        → ((name : ByteList) → value_at name left ≡ value_at name right) → left ≡ right }
+{}
