@@ -1,0 +1,15 @@
+pub mod BegunLemmas
+pub mod CallLemmas
+pub mod CompleteLemmas
+pub mod EndLemmas
+pub mod FrontLemmas
+pub mod PlaceLemmas
+pub mod ReadLemmas
+pub mod RefusalLemmas
+pub mod RunLemmas
+pub mod SoundLemmas
+pub mod StepLemmas
+pub mod TakeLemmas
+pub mod TellLemmas
+pub mod TextLemmas
+pub mod Utf8Lemmas

@@ -1,0 +1,216 @@
+-- Names, keys and words as they are laid out are taken.
+use Rattle.std.proofs.Common.{◌≡◌, ℕ, List, [], ◌∷◌, ◌++◌, Bool, true, false, ◌||◌}
+use Rattle.std.proofs.Common.{Option, Some, None, encode_utf8, encode_utf8_all, refl, ap, sym}
+use Rattle.std.proofs.Common.{◌∙◌, subst, append_assoc, append-nil}
+use Rattle.std.specs.Prelude.{◌==◌}
+use Rattle.std.specs.Option.{option_and_then}
+use Rattle.std.specs.List.{AllByRecursion}
+use Rattle.std.proofs.lemmas.Bool.{false≢true}
+use Rattle.expr_reader.specs.declared.machine.Place.{Place}
+use Rattle.expr_reader.specs.Letters.{is_blank, is_name_letter}
+use Rattle.expr_reader.specs.Letters.{is_special}
+use Rattle.expr_reader.specs.Machine.{Machine, step, end_word, bare_step}
+use Rattle.expr_reader.specs.declared.machine.Place.TheVariants.{Start, Name}
+use Rattle.expr_reader.specs.declared.machine.Place.TheVariants.{Before, Bare, Quote}
+use Rattle.expr_reader.specs.declared.machine.Place.TheVariants.{AfterQuote, Close}
+use Rattle.expr_reader.specs.Word.{AreBlank, EndsPlain, Inside}
+use Rattle.expr_reader.specs.Word.{nothing_more, letter, escaped_quote, kept_backslash}
+use Rattle.expr_reader.specs.Word.{inside_print, inside_text, IsInside, Writing, bare, quoted}
+use Rattle.expr_reader.specs.Word.{writing_print, writing_text, is_quoted, IsWriting}
+use Rattle.expr_reader.specs.Tree.{word_tree}
+
+-- the machine after some characters
+abbrev pub go : Machine → List ℕ → Option Machine
+go m [] = Some m
+go m (c ∷ cs) = option_and_then (λ n. go n cs) (step m c)
+
+-- characters are taken one list after another
+pub go_then : (m n : Machine) (xs ys : List ℕ) (r : Option Machine) → go m xs ≡ Some n → go n ys ≡ r
+    → go m (xs ++ ys) ≡ r
+go_then m n [] ys r h k = let e : m ≡ n = cc in subst (λ x. go x ys ≡ r) (sym e) k
+go_then m n (x ∷ xs) ys r h k =
+    elim (step m x) as (λ o. option_and_then (λ p. go p xs) o ≡ Some n
+    → option_and_then (λ p. go p (xs ++ ys)) o ≡ r)
+    [ None ↦ λ e. cc | Some p ↦ λ e. go_then p n xs ys r e k ] h
+
+-- a place that stays as it is at one blank stays so at many
+pub blanks_stay : (n : Machine) → ((c : ℕ) → is_blank c ≡ true → step n c ≡ Some n) → (ws : List ℕ)
+    → AreBlank ws → go n ws ≡ Some n
+blanks_stay n s [] h = refl
+blanks_stay n s (w ∷ ws) h = rw (s w h.0) (blanks_stay n s ws h.1)
+
+-- blanks before the name change nothing
+pub at_start : (m : Machine) (ws : List ℕ) → AreBlank ws
+    → go (record m { place = Start }) ws ≡ Some (record m { place = Start })
+at_start m = blanks_stay (record m { place = Start }) (λ c e. rw e refl)
+
+-- letters go on with the name
+pub in_name : (m : Machine) (cs : List ℕ) → AllByRecursion (λ c. is_name_letter c ≡ true) cs
+    → go (record m { place = Name }) cs ≡ Some
+    (record m { place = Name; name = m.name ++ encode_utf8_all cs })
+in_name m [] h = rw (append-nil m.name) refl
+in_name m (c ∷ cs) h =
+    rw h.0 (in_name (record m { name = m.name ++ encode_utf8 c }) cs h.1
+    ∙ ap (λ t. Some (record m { place = Name; name = t }))
+    (append_assoc m.name (encode_utf8 c) (encode_utf8_all cs)))
+
+-- either part of an or that is false is false
+pub or_false : (a b : Bool) → (a || b) ≡ false → (a ≡ false) × (b ≡ false)
+or_false true b h = absurd (false≢true (sym h))
+or_false false b h = (refl, h)
+
+-- a character that isn't special is none of these
+pub record Plain (c : ℕ) : Type 0 where
+  pub comma : (c == 44) ≡ false
+  pub bracket : (c == 40) ≡ false
+  pub close : (c == 41) ≡ false
+  pub equals : (c == 61) ≡ false
+  pub quote : (c == 34) ≡ false
+
+-- a character that is not special is none of the five
+pub plain : (c : ℕ) → is_special c ≡ false → Plain c
+plain c h =
+    let a = or_false _ _ h in
+    let b = or_false _ _ a.0 in
+    let d = or_false _ _ b.0 in
+    let e = or_false _ _ d.0 in
+    record { comma = e.0; bracket = e.1; close = d.1; equals = b.1; quote = a.1 }
+
+-- such a character goes on with bare text, with the blanks before it
+pub bare_on : (m : Machine) (c : ℕ) → is_blank c ≡ false → is_special c ≡ false
+    → bare_step m c ≡ Some (record m { text = (m.text ++ m.blanks) ++ encode_utf8 c; blanks = [] })
+bare_on m c nb ns = let p = plain c ns in
+    rw (nb, p.comma, p.close, p.equals, p.bracket, p.quote) refl
+
+-- a blank is kept aside
+pub bare_blank : (m : Machine) (c : ℕ) → is_blank c ≡ true
+    → bare_step m c ≡ Some (record m { blanks = m.blanks ++ encode_utf8 c })
+bare_blank m c e = rw e refl
+
+-- bare text that goes on to a character that is no blank
+pub in_bare : (m : Machine) (cs : List ℕ) → AllByRecursion (λ c. is_special c ≡ false) cs
+    → EndsPlain cs
+    → go (record m { place = Bare }) cs ≡ Some
+    (record m { place = Bare; text = (m.text ++ m.blanks) ++ encode_utf8_all cs; blanks = [] })
+in_bare m [] h e = absurd e
+in_bare m (c ∷ []) h e =
+    rw (bare_on (record m { place = Bare }) c e h.0)
+    (ap (λ t. Some (record m { place = Bare; text = (m.text ++ m.blanks) ++ t; blanks = [] }))
+    (sym (append-nil (encode_utf8 c))))
+in_bare m (c ∷ d ∷ cs) h e =
+    elim (is_blank c) as (λ b. is_blank c ≡ b
+    → go (record m { place = Bare }) (c ∷ d ∷ cs) ≡ Some
+    (record m {
+      place = Bare;
+      text = (m.text ++ m.blanks) ++ encode_utf8_all
+          (c ∷ d ∷ cs);
+      blanks = [];
+    })) [
+      | true ↦ λ t. rw (bare_blank (record m { place = Bare }) c t)
+          (in_bare (record m { blanks = m.blanks ++ encode_utf8 c }) (d ∷ cs) h.1 e
+          ∙ ap (λ t. Some (record m { place = Bare; text = t; blanks = [] })) (simp append_assoc))
+      | false ↦ λ f. rw (bare_on (record m { place = Bare }) c f h.0)
+          (in_bare (record m { text = (m.text ++ m.blanks) ++ encode_utf8 c; blanks = [] })
+          (d ∷ cs) h.1 e
+          ∙ ap (λ t. Some (record m { place = Bare; text = t; blanks = [] }))
+          (simp (append-nil, append_assoc)))
+    ] refl
+
+-- many blanks are kept aside
+pub bare_blanks : (m : Machine) (ws : List ℕ) → AreBlank ws
+    → go (record m { place = Bare }) ws ≡ Some
+    (record m { place = Bare; blanks = m.blanks ++ encode_utf8_all ws })
+bare_blanks m [] h = rw (append-nil m.blanks) refl
+bare_blanks m (w ∷ ws) h = rw (bare_blank (record m { place = Bare }) w h.0)
+    (bare_blanks (record m { blanks = m.blanks ++ encode_utf8 w }) ws h.1
+    ∙ ap (λ t. Some (record m { place = Bare; blanks = t }))
+    (append_assoc m.blanks (encode_utf8 w) (encode_utf8_all ws)))
+
+-- what stands between quotes is read as its text
+pub in_quote : (m : Machine) (i : Inside) → IsInside i
+    → go (record m { place = Quote }) (inside_print i) ≡ Some
+    (record m { place = Quote; text = m.text ++ inside_text i })
+in_quote m nothing_more h = rw (append-nil m.text) refl
+in_quote m (letter c more) h =
+    rw (h.0, h.1) (in_quote (record m { text = m.text ++ encode_utf8 c }) more h.2
+    ∙ ap (λ t. Some (record m { place = Quote; text = t }))
+    (append_assoc m.text (encode_utf8 c) (inside_text more)))
+in_quote m (escaped_quote more) h =
+    in_quote (record m { text = m.text ++ 34 ∷ [] }) more h
+    ∙ ap (λ t. Some (record m { place = Quote; text = t }))
+    (append_assoc m.text (34 ∷ []) (inside_text more))
+in_quote m (kept_backslash c more) h =
+    rw h.0 (in_quote (record m { text = (m.text ++ 92 ∷ []) ++ encode_utf8 c }) more h.1
+    ∙ ap (λ t. Some (record m { place = Quote; text = t })) (simp append_assoc))
+
+-- what ends a word: a comma, or the closing bracket after the last
+abbrev pub stop : Bool → ℕ
+stop true = 41
+stop false = 44
+
+-- where each of them leads
+abbrev pub next : Bool → Place
+next true = Close
+next false = Before
+
+-- the machine that has read a word as an argument
+abbrev pub with_word : Bool → Machine → Writing → Machine
+with_word last m w = record m {
+  place = next last;
+  args = m.args ++ word_tree m.key (writing_text w)
+      (is_quoted w) ∷ [];
+  key = None;
+  text = [];
+  blanks = [];
+}
+
+-- bare text with blanks behind it ends at a comma or a parenthesis
+pub bare_stops : (last : Bool) (m : Machine) (ws : List ℕ) → AreBlank ws
+    → go (record m { place = Bare }) (ws ++ stop last ∷ []) ≡ Some (end_word false (next last) m)
+bare_stops last m ws h =
+    go_then (record m { place = Bare }) _ ws (stop last ∷ []) _ (bare_blanks m ws h) (by_last last)
+  where
+    by_last : (l : Bool) → go (record m { place = Bare; blanks = m.blanks ++ encode_utf8_all ws })
+        (stop l ∷ []) ≡ Some (end_word false (next l) m)
+    by_last true = refl
+    by_last false = refl
+
+-- a character begins bare text
+pub first_bare : (m : Machine) (c : ℕ) → is_blank c ≡ false → is_special c ≡ false
+    → step (record m { place = Before }) c ≡ Some
+    (record m { place = Bare; text = encode_utf8 c; blanks = [] })
+first_bare m c nb ns = let p = plain c ns in
+    rw (nb, p.quote, p.comma, p.bracket, p.close, p.equals) refl
+
+-- a word with blanks behind it is read up to its end
+pub word_read : (last : Bool) (m : Machine) (w : Writing) (ws : List ℕ) → IsWriting w → AreBlank ws
+    → go (record m { place = Before }) (writing_print w ++ (ws ++ stop last ∷ [])) ≡ Some
+    (with_word last m w)
+word_read last m (bare []) ws h k = absurd h.1
+word_read last m (bare (c ∷ [])) ws h k =
+    rw (first_bare m c h.1 h.0.0)
+    (bare_stops last (record m { text = encode_utf8 c; blanks = [] }) ws k
+    ∙ ap (λ t. Some (end_word false (next last) (record m { text = t; blanks = [] })))
+    (sym (append-nil (encode_utf8 c))))
+word_read last m (bare (c ∷ d ∷ cs)) ws h k =
+    let on = in_bare (record m { text = encode_utf8 c; blanks = [] }) (d ∷ cs) h.0.1 h.2 in
+    rw (first_bare m c h.1 h.0.0)
+    (go_then (record m { place = Bare; text = encode_utf8 c; blanks = [] }) _ (d ∷ cs)
+    (ws ++ stop last ∷ []) _ on
+    (bare_stops last (record m
+    { text = (encode_utf8 c ++ []) ++ encode_utf8_all (d ∷ cs); blanks = [] }) ws k
+    ∙ ap (λ t. Some (end_word false (next last) (record m { text = t; blanks = [] })))
+    (simp append-nil)))
+word_read last m (quoted i) ws h k =
+    subst (λ t. go (record m { place = Before }) (34 ∷ t) ≡ Some (with_word last m (quoted i)))
+    (sym (append_assoc (inside_print i) (34 ∷ []) (ws ++ stop last ∷ [])))
+    (go_then (record m { place = Quote; text = [] }) _ (inside_print i)
+    (34 ∷ (ws ++ stop last ∷ [])) _ (in_quote (record m { text = [] }) i h)
+    (go_then (record m { place = AfterQuote; text = inside_text i }) _ ws (stop last ∷ []) _
+    (blanks_stay (record m { place = AfterQuote; text = inside_text i })
+    (λ c e. rw e refl) ws k) (by_last last)))
+  where
+    by_last : (l : Bool) → go (record m { place = AfterQuote; text = inside_text i })
+        (stop l ∷ []) ≡ Some (with_word l m (quoted i))
+    by_last true = refl
+    by_last false = refl

@@ -1,0 +1,11 @@
+pub mod Codes
+pub mod Falls
+pub mod Fault
+pub mod Grammar
+pub mod Layout
+pub mod Letters
+pub mod Machine
+pub mod Reading
+pub mod Tree
+pub mod Views
+pub mod Word
