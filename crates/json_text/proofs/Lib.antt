@@ -1,0 +1,5 @@
+pub mod DocumentsLemmas
+pub mod MembersLemmas
+pub mod RepliesLemmas
+pub mod UpdatesLemmas
+pub mod LawsLemmas

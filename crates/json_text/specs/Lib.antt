@@ -1,0 +1,6 @@
+pub mod Replies
+pub mod Documents
+pub mod Writes
+pub mod Updates
+pub mod Faults
+pub mod Laws

@@ -1,0 +1,21 @@
+//! JSON of replies and of updates: the exact bytes of a result set and of an update's answer,
+//! and what update a body is.
+#![tactic(auto)]
+
+mod document;
+mod fault;
+mod laws;
+mod members;
+mod pieces;
+mod replies;
+#[cfg(test)]
+mod tests;
+mod tuples;
+mod update;
+mod writes;
+
+pub use fault::JsonFault;
+pub use laws::bodies_are_read_in_order;
+pub use replies::{EndTuple, error_text, result_set_text, update_text};
+pub use tuples::tuple_text;
+pub use update::{Update, read_update};

@@ -1,0 +1,18 @@
+-- What is read of an input (own).
+use Rattle.std.specs.Prelude.{◌≡◌, ℕ, ◌≤◌, List, length, take, drop, Option, Some, None}
+
+-- the greatest number of bytes that is read: one more than an expression may have
+unfoldable pub limit : ℕ
+limit = 65537
+
+-- these bytes were taken from the front of what was left, where the source tells what is left
+abbrev pub HasTaken : Option (List ℕ) → Option (List ℕ) → List ℕ → Type 0
+HasTaken None new bytes = new ≡ None
+HasTaken (Some all) new bytes =
+    (length bytes ≤ length all) × (bytes ≡ take (length bytes) all)
+    × (new ≡ Some (drop (length bytes) all))
+
+-- the bytes are all that the source had left, or the first of them, where it tells
+abbrev pub IsInput : Option (List ℕ) → List ℕ → Type 0
+IsInput None bytes = Unit {0}
+IsInput (Some all) bytes = bytes ≡ take limit all

@@ -1,0 +1,4 @@
+pub mod Inputs
+pub mod Plans
+pub mod Replies
+pub mod Endings
