@@ -170,10 +170,12 @@ Front Before m p = Within m.name m.args m.key [] p
 Front Bare m p = (cs : List ℕ) × (ws : List ℕ) × IsBare cs × AreBlank ws ×
     (m.text ≡ encode_utf8_all cs) × (m.blanks ≡ encode_utf8_all ws) × Within m.name m.args m.key
     (cs ++ ws) p
-Front Quote m p = (i : Inside) × IsInside i × (m.text ≡ inside_text i) × Within m.name m.args m.key
-    (34 ∷ inside_print i) p
-Front Escape m p = (i : Inside) × IsInside i × (m.text ≡ inside_text i) × Within m.name m.args m.key
-    (34 ∷ (inside_print i ++ 92 ∷ [])) p
+Front Quote m p =
+    (i : Inside) × IsInside i × (m.text ≡ inside_text i) × (m.blanks ≡ [])
+    × Within m.name m.args m.key (34 ∷ inside_print i) p
+Front Escape m p =
+    (i : Inside) × IsInside i × (m.text ≡ inside_text i) × (m.blanks ≡ [])
+    × Within m.name m.args m.key (34 ∷ (inside_print i ++ 92 ∷ [])) p
 Front AfterQuote m p =
     (i : Inside) × (ws : List ℕ) × IsInside i × AreBlank ws ×
     (m.text ≡ inside_text i) × Within m.name m.args m.key (34 ∷ (inside_print i ++ 34 ∷ ws)) p

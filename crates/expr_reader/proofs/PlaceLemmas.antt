@@ -231,14 +231,20 @@ wide_step Bare m c w =
     }
 wide_step Quote m c w =
     record {
-      taken = λ h.
-          (record m { place = Quote; text = m.text ++ encode_utf8 c }, rw (w.quote, w.slash) refl);
+      taken = λ h. (
+        record m { place = Quote; text = (m.text ++ m.blanks) ++ encode_utf8 c; blanks = [] },
+        rw (w.quote, w.slash) refl,
+      );
       refused = λ h. absurd (false≢true (sym h));
     }
 wide_step Escape m c w =
     record {
       taken = λ h. (
-        record m { place = Quote; text = (m.text ++ 92 ∷ []) ++ encode_utf8 c },
+        record m {
+          place = Quote;
+          text = ((m.text ++ m.blanks) ++ 92 ∷ []) ++ encode_utf8 c;
+          blanks = [];
+        },
         rw w.quote refl,
       );
       refused = λ h. absurd (false≢true (sym h));

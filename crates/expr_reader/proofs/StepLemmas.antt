@@ -191,7 +191,7 @@ pub begins : (m : Machine) (c : ℕ) (p : List ℕ) → Within m.name m.args m.k
     → is_blank c ≡ false
     → Good (begin_word m c) (p ++ c ∷ [])
 begins m c p w nb = if_good (eqb c 34) _ _ _
-    (λ e. (nothing_more, tt, refl, within_push _ _ _ [] p c 34 w (eqb-true c 34 e)))
+    (λ e. (nothing_more, tt, refl, refl, within_push _ _ _ [] p c 34 w (eqb-true c 34 e)))
     (λ _. if_good (is_special c) _ _ _ (λ _. tt)
     (λ ns. (
       c ∷ [],
@@ -378,18 +378,26 @@ from_after_quote m c p (i, ws, hi, hw, ht, w) = if_good (is_blank c) _ _ _
         (subst (λ t. Within m.name m.args m.key (34 ∷ t) p)
         (sym (append_assoc (inside_print i) (34 ∷ []) ws)) w)
 
+-- a text without blanks behind it goes on
+grown : (text blanks said more : List ℕ) → text ≡ said → blanks ≡ []
+    → (text ++ blanks) ++ more ≡ said ++ more
+grown text blanks said more ht hb =
+    ap (λ t. (t ++ blanks) ++ more) ht ∙ ap (λ b. (said ++ b) ++ more) hb
+    ∙ ap (λ t. t ++ more) (append-nil said)
+
 -- one more character between quotes
 pub from_quote : (m : Machine) (c : ℕ) (p : List ℕ) → Front Quote m p
     → Good (step (record m { place = Quote }) c) (p ++ c ∷ [])
-from_quote m c p (i, hi, ht, w) = if_good (eqb c 34) _ _ _
+from_quote m c p (i, hi, ht, hb, w) = if_good (eqb c 34) _ _ _
     (λ e. (i, [], hi, tt, ht, within_push _ _ _ (34 ∷ inside_print i) p c 34 w (eqb-true c 34 e)))
     (λ nq. if_good (eqb c 92) _ _ _
-    (λ e. (i, hi, ht, within_push _ _ _ (34 ∷ inside_print i) p c 92 w (eqb-true c 92 e)))
+    (λ e. (i, hi, ht, hb, within_push _ _ _ (34 ∷ inside_print i) p c 92 w (eqb-true c 92 e)))
     (λ nb. let j = letter c nothing_more in (
       join i j,
       IsInside-join i j hi (nq, nb, tt),
-      ap (λ t. t ++ encode_utf8 c) ht
+      grown m.text m.blanks (inside_text i) (encode_utf8 c) ht hb
           ∙ ap (λ t. inside_text i ++ t) (sym (append-nil (encode_utf8 c))) ∙ sym (text-join i j),
+      refl,
       subst (λ t. Within m.name m.args m.key (34 ∷ t) (p ++ c ∷ [])) (sym (print-join i j))
           (within_push _ _ _ (34 ∷ inside_print i) p c c w refl),
     )))
@@ -397,11 +405,12 @@ from_quote m c p (i, hi, ht, w) = if_good (eqb c 34) _ _ _
 -- one more character behind a backslash
 pub from_escape : (m : Machine) (c : ℕ) (p : List ℕ) → Front Escape m p
     → Good (step (record m { place = Escape }) c) (p ++ c ∷ [])
-from_escape m c p (i, hi, ht, w) = if_good (eqb c 34) _ _ _
+from_escape m c p (i, hi, ht, hb, w) = if_good (eqb c 34) _ _ _
     (λ e. let j = escaped_quote nothing_more in (
       join i j,
       IsInside-join i j hi tt,
-      ap (λ t. t ++ 34 ∷ []) ht ∙ sym (text-join i j),
+      grown m.text m.blanks (inside_text i) (34 ∷ []) ht hb ∙ sym (text-join i j),
+      refl,
       subst (λ t. Within m.name m.args m.key (34 ∷ t) (p ++ c ∷ []))
           (append_assoc (inside_print i) (92 ∷ []) (34 ∷ []) ∙ sym (print-join i j))
           (within_push _ _ _ (34 ∷ (inside_print i ++ 92 ∷ [])) p c 34 w (eqb-true c 34 e)),
@@ -409,10 +418,11 @@ from_escape m c p (i, hi, ht, w) = if_good (eqb c 34) _ _ _
     (λ nq. let j = kept_backslash c nothing_more in (
       join i j,
       IsInside-join i j hi (nq, tt),
-      ap (λ t. (t ++ 92 ∷ []) ++ encode_utf8 c) ht
+      ap (λ t. t ++ encode_utf8 c) (grown m.text m.blanks (inside_text i) (92 ∷ []) ht hb)
           ∙ append_assoc (inside_text i) (92 ∷ []) (encode_utf8 c)
           ∙ ap (λ t. inside_text i ++ 92 ∷ t) (sym (append-nil (encode_utf8 c)))
           ∙ sym (text-join i j),
+      refl,
       subst (λ t. Within m.name m.args m.key (34 ∷ t) (p ++ c ∷ []))
           (append_assoc (inside_print i) (92 ∷ []) (c ∷ []) ∙ sym (print-join i j))
           (within_push _ _ _ (34 ∷ (inside_print i ++ 92 ∷ [])) p c c w refl),

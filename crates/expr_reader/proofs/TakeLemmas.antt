@@ -128,20 +128,21 @@ bare_blanks m (w ∷ ws) h = rw (bare_blank (record m { place = Bare }) w h.0)
 
 -- what stands between quotes is read as its text
 pub in_quote : (m : Machine) (i : Inside) → IsInside i
-    → go (record m { place = Quote }) (inside_print i) ≡ Some
-    (record m { place = Quote; text = m.text ++ inside_text i })
+    → go (record m { place = Quote; blanks = [] }) (inside_print i)
+    ≡ Some (record m { place = Quote; text = m.text ++ inside_text i; blanks = [] })
 in_quote m nothing_more h = rw (append-nil m.text) refl
 in_quote m (letter c more) h =
-    rw (h.0, h.1) (in_quote (record m { text = m.text ++ encode_utf8 c }) more h.2
-    ∙ ap (λ t. Some (record m { place = Quote; text = t }))
-    (append_assoc m.text (encode_utf8 c) (inside_text more)))
+    rw (h.0, h.1) (in_quote (record m { text = (m.text ++ []) ++ encode_utf8 c }) more h.2
+    ∙ ap (λ t. Some (record m { place = Quote; text = t; blanks = [] }))
+    (simp (append-nil, append_assoc)))
 in_quote m (escaped_quote more) h =
-    in_quote (record m { text = m.text ++ 34 ∷ [] }) more h
-    ∙ ap (λ t. Some (record m { place = Quote; text = t }))
-    (append_assoc m.text (34 ∷ []) (inside_text more))
+    in_quote (record m { text = (m.text ++ []) ++ 34 ∷ [] }) more h
+    ∙ ap (λ t. Some (record m { place = Quote; text = t; blanks = [] }))
+    (simp (append-nil, append_assoc))
 in_quote m (kept_backslash c more) h =
-    rw h.0 (in_quote (record m { text = (m.text ++ 92 ∷ []) ++ encode_utf8 c }) more h.1
-    ∙ ap (λ t. Some (record m { place = Quote; text = t })) (simp append_assoc))
+    rw h.0 (in_quote (record m { text = ((m.text ++ []) ++ 92 ∷ []) ++ encode_utf8 c }) more h.1
+    ∙ ap (λ t. Some (record m { place = Quote; text = t; blanks = [] }))
+    (simp (append-nil, append_assoc)))
 
 -- what ends a word: a comma, or the closing bracket after the last
 abbrev pub stop : Bool → ℕ
@@ -204,13 +205,14 @@ word_read last m (bare (c ∷ d ∷ cs)) ws h k =
 word_read last m (quoted i) ws h k =
     subst (λ t. go (record m { place = Before }) (34 ∷ t) ≡ Some (with_word last m (quoted i)))
     (sym (append_assoc (inside_print i) (34 ∷ []) (ws ++ stop last ∷ [])))
-    (go_then (record m { place = Quote; text = [] }) _ (inside_print i)
+    (go_then (record m { place = Quote; text = []; blanks = [] }) _ (inside_print i)
     (34 ∷ (ws ++ stop last ∷ [])) _ (in_quote (record m { text = [] }) i h)
-    (go_then (record m { place = AfterQuote; text = inside_text i }) _ ws (stop last ∷ []) _
-    (blanks_stay (record m { place = AfterQuote; text = inside_text i })
+    (go_then (record m { place = AfterQuote; text = inside_text i; blanks = [] }) _ ws
+    (stop last ∷ []) _
+    (blanks_stay (record m { place = AfterQuote; text = inside_text i; blanks = [] })
     (λ c e. rw e refl) ws k) (by_last last)))
   where
-    by_last : (l : Bool) → go (record m { place = AfterQuote; text = inside_text i })
+    by_last : (l : Bool) → go (record m { place = AfterQuote; text = inside_text i; blanks = [] })
         (stop l ∷ []) ≡ Some (with_word l m (quoted i))
     by_last true = refl
     by_last false = refl

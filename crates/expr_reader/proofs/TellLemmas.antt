@@ -102,10 +102,12 @@ ends_in_name Bare m n o h k e =
     (last_of m.args _ (subst (λ t. EndsInBareName (trees_of t)) args e)) in
     is_name-from m.text two.1
 ends_in_name Quote m n o h k e =
-    let same : record m { place = Quote; text = m.text ++ encode_utf8 41 } ≡ n = cc in
+    let text = (m.text ++ m.blanks) ++ encode_utf8 41 in
+    let same : record m { place = Quote; text = text; blanks = [] } ≡ n = cc in
     let place : Quote ≡ Close = ap (λ (x : Machine). x.place) same ∙ k in cc
 ends_in_name Escape m n o h k e =
-    let same : record m { place = Quote; text = (m.text ++ 92 ∷ []) ++ encode_utf8 41 } ≡ n = cc in
+    let text = ((m.text ++ m.blanks) ++ 92 ∷ []) ++ encode_utf8 41 in
+    let same : record m { place = Quote; text = text; blanks = [] } ≡ n = cc in
     let place : Quote ≡ Close = ap (λ (x : Machine). x.place) same ∙ k in cc
 ends_in_name AfterQuote m n o h k e =
     let same : end_word true Close m ≡ n = cc in

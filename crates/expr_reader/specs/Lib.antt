@@ -5,6 +5,7 @@ pub mod Grammar
 pub mod Layout
 pub mod Letters
 pub mod Machine
+pub mod OpenText
 pub mod Reading
 pub mod Tree
 pub mod Views

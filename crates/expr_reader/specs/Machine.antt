@@ -28,8 +28,8 @@ machine r = record {
   name = string_bytes r.name;
   args = r.args;
   key = r.key;
-  text = string_bytes r.text;
-  blanks = string_bytes r.blanks;
+  text = r.text.0;
+  blanks = r.text.1;
 }
 
 -- nothing is read
@@ -49,7 +49,7 @@ end_word quoted next m = record m {
 -- a character with which a word begins
 abbrev pub begin_word : Machine → ℕ → Option Machine
 begin_word m c =
-    if c == 34 then Some (record m { place = Quote; text = [] })
+    if c == 34 then Some (record m { place = Quote; text = []; blanks = [] })
     else (if is_special c then None
     else Some (record m { place = Bare; text = encode_utf8 c; blanks = [] }))
 
@@ -88,10 +88,15 @@ step_at Bare m c = bare_step m c
 step_at Quote m c =
     if c == 34 then Some (record m { place = AfterQuote })
     else (if c == 92 then Some (record m { place = Escape })
-    else Some (record m { text = m.text ++ encode_utf8 c }))
+    else Some (record m { text = (m.text ++ m.blanks) ++ encode_utf8 c; blanks = [] }))
 step_at Escape m c =
-    if c == 34 then Some (record m { place = Quote; text = m.text ++ 34 ∷ [] })
-    else Some (record m { place = Quote; text = (m.text ++ 92 ∷ []) ++ encode_utf8 c })
+    if c == 34
+    then Some (record m { place = Quote; text = (m.text ++ m.blanks) ++ 34 ∷ []; blanks = [] })
+    else Some (record m {
+      place = Quote;
+      text = ((m.text ++ m.blanks) ++ 92 ∷ []) ++ encode_utf8 c;
+      blanks = [];
+    })
 step_at AfterQuote m c =
     if is_blank c then Some m
     else (if c == 44 then Some (end_word true Before m)

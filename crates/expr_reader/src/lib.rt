@@ -5,6 +5,7 @@ mod call;
 mod fault;
 mod letters;
 mod machine;
+mod open_text;
 mod reader;
 #[cfg(test)]
 mod tests;

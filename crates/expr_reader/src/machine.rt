@@ -7,23 +7,33 @@ ghost use Rattle.expr_reader.specs.declared.machine.Place.TheVariants.{Start, Na
 use crate::letters::{
     begins_name, begun_bytes, is_blank, is_key, is_name, is_name_letter, is_special,
 };
+use crate::open_text::OpenText;
 use crate::{Arg, ArgValue, Args, Call, ExprFault, Word};
 use std::alloc::Global;
-use std::mem;
 use tuple_values::{Memory, Text};
 
 /// What was read last.
-#[derive(Clone, Copy, Debug, PartialEq, Eq)]
+#[derive(Clone, Copy, PartialEq, Eq)]
 pub enum Place {
+    /// Blanks, or nothing.
     Start,
+    /// A part of the call's name.
     Name,
+    /// A blank behind the name.
     AfterName,
+    /// The opening parenthesis, or a blank behind it.
     Open,
+    /// A comma or an equals sign, or a blank behind it.
     Before,
+    /// Bare text, or a blank behind it.
     Bare,
+    /// A part of quoted text.
     Quote,
+    /// A backslash in quoted text.
     Escape,
+    /// The closing quote, or a blank behind it.
     AfterQuote,
+    /// The closing parenthesis, or a blank behind it.
     Close,
 }
 
@@ -42,7 +52,8 @@ impl Place {
     }
 }
 
-/// An expression as far as it is read.
+/// An expression as far as it is read: the call's name, the whole arguments, and of the next one
+/// the key and the text.
 #[derive(Drop)]
 pub struct Reading {
     pub alloc: Global,
@@ -50,8 +61,7 @@ pub struct Reading {
     pub name: String,
     pub args: Args,
     pub key: Option<Text>,
-    pub text: String,
-    pub blanks: String,
+    pub text: OpenText,
 }
 
 impl Reading {
@@ -60,6 +70,7 @@ impl Reading {
     ghost use Rattle.expr_reader.specs.Reading.{refusal, read_end};
     ghost use Rattle.expr_reader.specs.Fault.{Answers};
 
+    /// Nothing is read yet.
     pub fn new(alloc: Global) -> Reading
         ensures { machine result ≡ start }
     {
@@ -69,15 +80,15 @@ impl Reading {
             name: String::new(alloc),
             args: Args::new(alloc),
             key: None,
-            text: String::new(alloc),
-            blanks: String::new(alloc),
+            text: OpenText::new(alloc),
         }
     }
 
+    // The word is an argument, by itself or under its key.
     fn end_word(&mut self, quoted: bool, next: Place) -> Result<(), Memory>
         ensures { IfOk result (λ _. machine self.new ≡ end_word quoted next (machine self.old)) }
     {
-        let text = Text::from_string(mem::replace(&mut self.text, String::new(self.alloc)));
+        let text = self.text.take(self.alloc);
         let word = Word { text, quoted };
         let arg = match self.key.take() {
             None => Arg::Plain(word),
@@ -87,7 +98,6 @@ impl Reading {
             },
         };
         self.args.push(arg)?;
-        self.blanks.clear();
         self.place = next;
         Ok(())
     }
@@ -106,7 +116,6 @@ impl Reading {
         }
         self.text.clear();
         self.text.push(c)?;
-        self.blanks.clear();
         self.place = Place::Bare;
         Ok(true)
     }
@@ -116,7 +125,7 @@ impl Reading {
             (bare_step (machine self.old) c) live (machine self.new)) }
     {
         if is_blank(c) {
-            self.blanks.push(c)?;
+            self.text.push_blank(c)?;
             return Ok(true);
         }
         if c == ',' {
@@ -133,21 +142,18 @@ impl Reading {
         if is_special(c) {
             return Ok(false);
         }
-        self.text.push_str(self.blanks.as_str())?;
         self.text.push(c)?;
-        self.blanks.clear();
         Ok(true)
     }
 
+    // The bare text is a key, if it can be one and there is none yet.
     fn end_key(&mut self) -> bool
         ensures { Moves (machine self.old) (end_key (machine self.old)) result (machine self.new) }
     {
-        if self.key.is_some() || !is_key(self.text.as_bytes()) {
+        if self.key.is_some() || !is_key(self.text.kept()) {
             return false;
         }
-        let text = mem::replace(&mut self.text, String::new(self.alloc));
-        self.key = Some(Text::from_string(text));
-        self.blanks.clear();
+        self.key = Some(self.text.take(self.alloc));
         self.place = Place::Before;
         true
     }
@@ -190,9 +196,9 @@ impl Reading {
             (step_at Escape (machine self.old) c) live (machine self.new)) }
     {
         if c == '"' {
-            self.text.push_str("\"")?;
+            self.text.push('"')?;
         } else {
-            self.text.push_str("\\")?;
+            self.text.push('\\')?;
             self.text.push(c)?;
         }
         self.place = Place::Quote;
@@ -294,7 +300,7 @@ impl Reading {
     pub fn refusal(&self, at: u64, c: char) -> ExprFault
         ensures { result ≡ refusal at (machine self.now) c }
     {
-        if c == '(' && self.place == Place::Bare && is_name(self.text.as_bytes()) {
+        if c == '(' && self.place == Place::Bare && is_name(self.text.kept()) {
             ExprFault::NotYet { at }
         } else {
             ExprFault::Syntax { at }

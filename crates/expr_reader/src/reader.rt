@@ -49,6 +49,7 @@ fn text_of(bytes: &[u8]) -> &str
     }
 }
 
+// Reads bytes that aren't too many.
 fn read(alloc: Global, bytes: &[u8]) -> Result<Call, ExprFault>
     requires { length bytes.now ≤ byte_limit }
     ensures { Answers (read_of bytes.now) result }
