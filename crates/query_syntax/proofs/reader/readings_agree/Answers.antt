@@ -1,0 +1,5 @@
+use Rattle.query_syntax.proofs.ReadLemmas.{sound, complete}
+use Rattle.query_syntax.proofs.reader.readings_agree.Goals as goal
+
+pub returns : goal.returns
+returns c = λ bytes clauses. (sound bytes clauses, complete bytes clauses)

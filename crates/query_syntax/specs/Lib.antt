@@ -1,0 +1,10 @@
+pub mod Codes
+pub mod Falls
+pub mod Fault
+pub mod Grammar
+pub mod Machine
+pub mod Matching
+pub mod Meaning
+pub mod PartCodes
+pub mod Tree
+pub mod Views

@@ -1,0 +1,14 @@
+//! Queries, the documents that they match, and the reader of their texts.
+#![tactic(auto)]
+
+mod fault;
+mod machine;
+mod matching;
+mod query;
+mod reader;
+#[cfg(test)]
+mod tests;
+
+pub use fault::QueryFault;
+pub use query::{Clause, Clauses, Query, Role, Test, What};
+pub use reader::{read_query, readings_agree};

@@ -1,0 +1,125 @@
+// What a query says.
+ghost use Rattle.std.specs.Prelude.{◌≡◌, ◌<◌, ◌++◌, ◌∷◌, [], OnErr, OnOk, length, slice_index_or};
+ghost use Rattle.query_syntax.specs.Tree.{what_depth, clauses_depth};
+ghost use Rattle.query_syntax.specs.Views.{clause_tree};
+
+use std::alloc::Global;
+use std::marker::Model;
+use tuple_values::{Memory, Text};
+
+/// What a clause means for the list that holds it.
+#[derive(Clone, Copy, Debug)]
+pub enum Role {
+    /// The list matches only where the clause does.
+    Required,
+    /// The list matches only where the clause doesn't.
+    Prohibited,
+    /// Where no clause is required, the list matches only where some optional one does.
+    Optional,
+}
+
+/// What is asked of the value of a field.
+#[derive(Debug, Drop)]
+pub enum Test {
+    /// The value is this text, or the number that the text is.
+    Word(Text),
+    /// The value is a text that begins so.
+    Prefix(Text),
+    /// The field is there.
+    Present,
+    /// The value lies between the bounds: a text by its bytes, a number by its size. A bound is
+    /// itself inside where its flag says so; no bound leaves that side open.
+    Range {
+        low: Option<Text>,
+        low_in: bool,
+        high: Option<Text>,
+        high_in: bool,
+    },
+}
+
+/// What a clause asks for: every document, a field with a test, or a list of clauses.
+#[cycle(clauses)]
+#[derive(Debug, Drop)]
+pub enum What {
+    Everything,
+    Field { name: Text, test: Test },
+    Nested(Clauses),
+}
+
+/// A part of a query, with its role in the list that holds it.
+#[cycle(clauses)]
+#[derive(Debug, Drop)]
+pub struct Clause {
+    pub role: Role,
+    pub what: What,
+}
+
+/// Clauses in their order. A contract sees the list of their trees.
+#[cycle(clauses)]
+#[derive(Debug, Drop)]
+pub struct Clauses {
+    items: Vec<Clause>,
+}
+
+/// A query, by its clauses.
+#[derive(Debug, Drop)]
+pub struct Query {
+    pub clauses: Clauses,
+}
+
+impl Model for Clauses {
+    ghost use Rattle.std.specs.Prelude.{List};
+    ghost use Rattle.query_syntax.specs.Tree.{ClauseTree, clauses_depth};
+
+    ghost Value = { List ClauseTree };
+
+    ghost use Rattle.query_syntax.specs.Codes.{clauses_code};
+
+    ghost coded = { clauses_code };
+
+    ghost use Rattle.query_syntax.specs.Views.{clause_trees};
+
+    ghost view = { λ c. clause_trees c.items.items };
+
+    ghost size = { clauses_depth };
+
+    ghost use Rattle.query_syntax.specs.Falls.{clauses_fall};
+
+    ghost size_decreases = { λ a h. clauses_fall a.items.items };
+}
+
+impl Clauses {
+    /// The list of no clause. No text says it; as a query it matches nothing.
+    pub fn new(alloc: Global) -> Clauses
+        ensures { result ≡ [] }
+    {
+        Clauses {
+            items: Vec::new(alloc),
+        }
+    }
+
+    /// Adds a clause at the end. After an `Err` the clause is dropped.
+    pub fn push(&mut self, clause: Clause) -> Result<(), Memory>
+        ensures ok { OnOk result (self.new ≡ self.old ++ clause_tree clause ∷ []) }
+        ensures err { OnErr result (self.new ≡ self.old) }
+    {
+        self.items.push(clause)?;
+        Ok(())
+    }
+
+    /// How many clauses there are.
+    pub fn count(&self) -> u64
+        ensures { result ≡ length self.now }
+    {
+        self.items.len() as u64
+    }
+
+    /// The k-th clause, counted from 0.
+    pub fn get(&self, k: u64) -> &Clause
+        requires { k < length self.now }
+        ensures value { (d : _) → clause_tree result.now ≡ slice_index_or self.now k d }
+        ensures smaller { what_depth (clause_tree result.now).what < clauses_depth self.now }
+    {
+        &self.items[k as usize]
+    }
+}

@@ -1,0 +1,325 @@
+// What no clause can say: that the definitions mean what the rules say, worked by hand, and that
+// each call that takes memory succeeds.
+use crate::{Clause, Clauses, Query, QueryFault, Role, Test, What, read_query};
+use std::alloc::Global;
+use std::process::Abort;
+use std::test::Fail;
+use tuple_values::{Memory, Text, Tuple, Tuples, Value};
+
+// A test as a row of a table writes it; a bound is its text and whether it is inside.
+#[derive(Clone, Copy, Debug)]
+enum Ask {
+    Word(&'static str),
+    Prefix(&'static str),
+    Present,
+    Range(Option<&'static str>, bool, Option<&'static str>, bool),
+}
+
+// A value as a row of a table writes it.
+#[derive(Clone, Copy, Debug)]
+enum Plain {
+    Absent,
+    Long(i64),
+    Text(&'static str),
+    Group,
+}
+
+fn bound_of(alloc: Global, bound: Option<&str>) -> Result<Option<Text>, Memory> {
+    match bound {
+        None => Ok(None),
+        Some(text) => Ok(Some(Text::of(alloc, text)?)),
+    }
+}
+
+fn test_of(alloc: Global, ask: Ask) -> Result<Test, Memory> {
+    match ask {
+        Ask::Word(word) => Ok(Test::Word(Text::of(alloc, word)?)),
+        Ask::Prefix(word) => Ok(Test::Prefix(Text::of(alloc, word)?)),
+        Ask::Present => Ok(Test::Present),
+        Ask::Range(low, low_in, high, high_in) => {
+            let low = bound_of(alloc, low)?;
+            let high = bound_of(alloc, high)?;
+            Ok(Test::Range {
+                low,
+                low_in,
+                high,
+                high_in,
+            })
+        }
+    }
+}
+
+// A tuple with the value under `f`.
+fn holding(alloc: Global, plain: Plain) -> Result<Tuple, Memory> {
+    let mut tuple = Tuple::empty(alloc);
+    match plain {
+        Plain::Absent => {}
+        Plain::Long(n) => tuple.put(Text::of(alloc, "f")?, Value::Long(n))?,
+        Plain::Text(text) => tuple.put(Text::of(alloc, "f")?, Value::Text(Text::of(alloc, text)?))?,
+        Plain::Group => tuple.put(Text::of(alloc, "f")?, Value::Group(Tuples::empty(alloc)))?,
+    }
+    Ok(tuple)
+}
+
+// The query of one clause, a test on `f`.
+fn asking(alloc: Global, test: Test) -> Result<Query, Memory> {
+    let mut clauses = Clauses::new(alloc);
+    let name = Text::of(alloc, "f")?;
+    clauses.push(Clause {
+        role: Role::Optional,
+        what: What::Field { name, test },
+    })?;
+    Ok(Query { clauses })
+}
+
+use Ask::{Prefix, Present, Range, Word};
+
+const VALUES: [(Ask, Plain, bool); 40] = [
+    (Word("x"), Plain::Text("x"), true),
+    (Word("x"), Plain::Text("xy"), false),
+    (Word("x"), Plain::Text("X"), false),
+    (Word(""), Plain::Text(""), true),
+    (Word("5"), Plain::Text("05"), false),
+    (Word("5"), Plain::Long(5), true),
+    (Word("05"), Plain::Long(5), true),
+    (Word("-5"), Plain::Long(-5), true),
+    (Word("5"), Plain::Long(-5), false),
+    (Word("x"), Plain::Long(5), false),
+    (Word("5x"), Plain::Long(5), false),
+    (Word("x"), Plain::Absent, false),
+    (Word(""), Plain::Group, false),
+    (Prefix("ab"), Plain::Text("abc"), true),
+    (Prefix("ab"), Plain::Text("ab"), true),
+    (Prefix("ab"), Plain::Text("a"), false),
+    (Prefix("ab"), Plain::Text("cab"), false),
+    (Prefix("1"), Plain::Long(12), false),
+    (Prefix("ab"), Plain::Absent, false),
+    (Prefix("ab"), Plain::Group, false),
+    (Present, Plain::Text(""), true),
+    (Present, Plain::Long(0), true),
+    (Present, Plain::Group, true),
+    (Present, Plain::Absent, false),
+    (
+        Range(Some("a"), true, Some("c"), true),
+        Plain::Text("a"),
+        true,
+    ),
+    (
+        Range(Some("a"), false, Some("c"), true),
+        Plain::Text("a"),
+        false,
+    ),
+    (
+        Range(Some("a"), true, Some("c"), true),
+        Plain::Text("c"),
+        true,
+    ),
+    (
+        Range(Some("a"), true, Some("c"), false),
+        Plain::Text("c"),
+        false,
+    ),
+    (
+        Range(Some("a"), true, Some("c"), false),
+        Plain::Text("bz"),
+        true,
+    ),
+    (
+        Range(Some("10"), true, Some("9"), true),
+        Plain::Text("5"),
+        true,
+    ),
+    (
+        Range(Some("10"), true, Some("9"), true),
+        Plain::Long(5),
+        false,
+    ),
+    (
+        Range(Some("9"), true, Some("10"), true),
+        Plain::Long(10),
+        true,
+    ),
+    (
+        Range(Some("9"), true, Some("10"), false),
+        Plain::Long(10),
+        false,
+    ),
+    (
+        Range(Some("-1"), false, Some("10"), false),
+        Plain::Long(0),
+        true,
+    ),
+    (Range(None, true, Some("3"), true), Plain::Long(-7), true),
+    (Range(Some("3"), true, None, false), Plain::Text("z"), true),
+    (Range(Some("x"), true, None, true), Plain::Long(5), false),
+    (Range(None, false, None, false), Plain::Long(5), true),
+    (Range(None, true, None, true), Plain::Absent, false),
+    (Range(None, true, None, true), Plain::Group, false),
+];
+
+// Each value passes its test where its row says so.
+fn assert_values(rt: &impl Abort, alloc: Global, rows: &[(Ask, Plain, bool)]) -> Result<(), Fail> {
+    for (ask, plain, want) in rows {
+        let query = asking(alloc, test_of(alloc, *ask)?)?;
+        let tuple = holding(alloc, *plain)?;
+        assert_eq!(rt; query.matches(&tuple), *want, "of {ask:?} on {plain:?}");
+    }
+    Ok(())
+}
+
+#[test]
+fn values_pass_the_tests_as_the_rules_say(rt: HostRuntime) -> Result<(), Fail> {
+    assert_values(&rt, rt.alloc(), &VALUES)
+}
+
+// For each row a clause of its role, with a test for the word on the field.
+fn words(alloc: Global, clauses: &[(Role, &str, &str)]) -> Result<Clauses, Memory> {
+    let mut all = Clauses::new(alloc);
+    for (role, name, word) in clauses {
+        let test = Test::Word(Text::of(alloc, word)?);
+        let what = What::Field {
+            name: Text::of(alloc, name)?,
+            test,
+        };
+        all.push(Clause { role: *role, what })?;
+    }
+    Ok(all)
+}
+
+fn texts(alloc: Global, fields: &[(&str, &str)]) -> Result<Tuple, Memory> {
+    let mut tuple = Tuple::empty(alloc);
+    for (name, text) in fields {
+        tuple.put(Text::of(alloc, name)?, Value::Text(Text::of(alloc, text)?))?;
+    }
+    Ok(tuple)
+}
+
+// A list of one clause, which holds the clauses.
+fn nested(alloc: Global, role: Role, clauses: Clauses) -> Result<Clauses, Memory> {
+    let mut all = Clauses::new(alloc);
+    all.push(Clause {
+        role,
+        what: What::Nested(clauses),
+    })?;
+    Ok(all)
+}
+
+#[test]
+fn an_optional_clause_beside_required_ones_is_not_needed(rt: HostRuntime) -> Result<(), Fail> {
+    let alloc = rt.alloc();
+    let query = Query {
+        clauses: words(
+            alloc,
+            &[
+                (Role::Optional, "a_s", "x"),
+                (Role::Required, "b_s", "y"),
+                (Role::Required, "c_s", "z"),
+            ],
+        )?,
+    };
+    let first = texts(alloc, &[("a_s", "x"), ("id", "1")])?;
+    let second = texts(alloc, &[("b_s", "y"), ("c_s", "z"), ("id", "2")])?;
+    assert!(rt; !query.matches(&first));
+    assert!(rt; query.matches(&second));
+    Ok(())
+}
+
+#[test]
+fn some_optional_clause_matches_where_none_is_required(rt: HostRuntime) -> Result<(), Fail> {
+    let alloc = rt.alloc();
+    let query = Query {
+        clauses: words(
+            alloc,
+            &[
+                (Role::Optional, "a_s", "x"),
+                (Role::Optional, "b_s", "y"),
+                (Role::Prohibited, "c_s", "z"),
+            ],
+        )?,
+    };
+    assert!(rt; query.matches(&texts(alloc, &[("b_s", "y")])?));
+    assert!(rt; !query.matches(&texts(alloc, &[("id", "1")])?));
+    assert!(rt; !query.matches(&texts(alloc, &[("a_s", "x"), ("c_s", "z")])?));
+    Ok(())
+}
+
+#[test]
+fn prohibited_clauses_alone_match_all_others_at_the_top(rt: HostRuntime) -> Result<(), Fail> {
+    let alloc = rt.alloc();
+    let first = texts(alloc, &[("a_s", "x"), ("id", "1")])?;
+    let second = texts(alloc, &[("id", "2")])?;
+    let top = Query {
+        clauses: words(alloc, &[(Role::Prohibited, "a_s", "x")])?,
+    };
+    assert!(rt; !top.matches(&first));
+    assert!(rt; top.matches(&second));
+    let inner = words(alloc, &[(Role::Prohibited, "a_s", "x")])?;
+    let under = Query {
+        clauses: nested(alloc, Role::Required, inner)?,
+    };
+    assert!(rt; !under.matches(&first));
+    assert!(rt; !under.matches(&second));
+    let empty = Query {
+        clauses: Clauses::new(alloc),
+    };
+    assert!(rt; !empty.matches(&second));
+    Ok(())
+}
+
+// A text with the place of its fault; none where it is a query.
+const TEXTS: [(&str, Option<u64>); 13] = [
+    ("*:*", None),
+    (" *:*\n", None),
+    ("\t\r *:* \n\t\r", None),
+    ("", Some(0)),
+    ("  ", Some(2)),
+    ("*", Some(1)),
+    ("*:", Some(2)),
+    ("*:x", Some(2)),
+    ("* :*", Some(1)),
+    ("*:* x", Some(4)),
+    ("*:**:*", Some(3)),
+    ("x", Some(0)),
+    ("\u{A0}*:*", Some(0)),
+];
+
+// Each text is read, or refused at its place, as its row says.
+fn assert_texts(
+    rt: &impl Abort,
+    alloc: Global,
+    rows: &[(&'static str, Option<u64>)],
+) -> Result<(), Fail> {
+    let tuple = texts(alloc, &[("id", "1")])?;
+    for (text, want) in rows {
+        match read_query(alloc, text) {
+            Ok(query) => {
+                assert_eq!(rt; *want, None, "of {text:?}");
+                assert!(rt; query.matches(&tuple), "of {text:?}");
+            }
+            Err(fault) => {
+                let Some(at) = *want else {
+                    return Err(Fail::from(fault));
+                };
+                assert_eq!(rt; fault, QueryFault::BadQuery { at }, "of {text:?}");
+            }
+        }
+    }
+    Ok(())
+}
+
+#[test]
+fn texts_are_read_or_have_their_place(rt: HostRuntime) -> Result<(), Fail> {
+    assert_texts(&rt, rt.alloc(), &TEXTS)
+}
+
+#[test]
+fn a_fault_is_written_with_its_place(rt: HostRuntime) -> Result<(), Fail> {
+    let alloc = rt.alloc();
+    let bad = QueryFault::BadQuery { at: 12 };
+    assert_eq!(rt; bad.text(alloc)?.as_str(), "BadQuery at 12");
+    assert_eq!(rt;
+        QueryFault::OutOfMemory.text(alloc)?.as_str(),
+        "out of memory"
+    );
+    Ok(())
+}
