@@ -1,0 +1,12 @@
+pub mod Ends
+pub mod Searches
+pub mod Fields
+pub mod Params
+pub mod Routes
+pub mod Judging
+pub mod Heads
+pub mod Stages
+pub mod Streams
+pub mod Turning
+pub mod Readings
+pub mod Readers
