@@ -1,0 +1,12 @@
+pub mod ListLemmas
+pub mod VersionLemmas
+pub mod DeliveryLemmas
+pub mod PlaceLemmas
+pub mod ChainLemmas
+pub mod IndexLemmas
+pub mod SentLemmas
+pub mod SettledLemmas
+pub mod ByteLemmas
+pub mod StateLemmas
+pub mod SnapshotLemmas
+pub mod FitLemmas

@@ -1,0 +1,11 @@
+pub mod Documents
+pub mod Histories
+pub mod Deliveries
+pub mod Fitness
+pub mod Sizes
+pub mod Shards
+pub mod Rows
+pub mod Places
+pub mod Links
+pub mod Indexes
+pub mod States

@@ -1,0 +1,28 @@
+// Documents as a shard holds them.
+ghost use Rattle.std.specs.Prelude.{◌≡◌, ◌+◌, ◌<◌, ◌^◌, IfOk};
+ghost use Rattle.shard_versions.specs.Documents.{id_of, with_version};
+
+use std::alloc::Global;
+use tuple_values::{Memory, Text, Tuple, Value};
+
+/// The document's id, and the empty text where it has none.
+#[tactic(auto, unfolding(crate::specs::Documents::id_of))]
+pub(crate) fn id_of(document: &Tuple) -> &str
+    ensures { result.now ≡ id_of document.now }
+{
+    match document.get("id") {
+        Some(Value::Text(id)) => id.as_str(),
+        _ => "",
+    }
+}
+
+/// A copy of the document as it is read in this version.
+#[tactic(auto, unfolding(crate::specs::Documents::with_version))]
+pub(crate) fn with_version(alloc: Global, document: &Tuple, version: u64) -> Result<Tuple, Memory>
+    requires { version < 2 ^ 63 }
+    ensures { IfOk result (λ tuple. tuple ≡ with_version version document.now) }
+{
+    let mut tuple = document.copy(alloc)?;
+    tuple.put(Text::of(alloc, "_version_")?, Value::Long(version as i64))?;
+    Ok(tuple)
+}

@@ -1,0 +1,22 @@
+//! A shard's history: entries, versions, current documents and deliveries.
+#![tactic(auto)]
+
+mod chain;
+mod cut;
+mod document;
+mod entry;
+mod fault;
+mod fitness;
+mod index;
+mod shard;
+mod size;
+mod snapshot;
+#[cfg(test)]
+mod tests;
+
+pub use cut::{Cut, CutMark, CutMarks, CutPart, OwnMark, OwnMarks, Record};
+pub use entry::{Entry, Kind, Step};
+pub use fault::ShardFault;
+pub use fitness::{are_fit, are_storable, is_storable};
+pub use shard::ShardState;
+pub use snapshot::Snapshot;
