@@ -1,0 +1,8 @@
+use Rattle.std.proofs.Common.{rules, not}
+use Rattle.std.proofs.lemmas.Fn.{filter_same}
+use Rattle.once_core.specs.declared.world.Known.{Known}
+use Rattle.once_core.specs.Worlds.{is_of}
+use Rattle.once_core.proofs.turn.forget_cell.Goals as goal
+
+pub returns : goal.returns
+returns c = filter_same _ (λ (k : Known). not (is_of c.args.actor c.args.cell k)) _ (λ x b f' k. search rules) _ _ c.retain.ensures.filtered

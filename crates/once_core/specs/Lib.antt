@@ -1,0 +1,4 @@
+pub mod Cells
+pub mod Law
+pub mod Worlds
+pub mod Delivered

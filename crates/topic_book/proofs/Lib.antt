@@ -1,0 +1,5 @@
+pub mod BookLemmas
+pub mod AlikeLemmas
+pub mod RaiseLemmas
+pub mod TopicLemmas
+pub mod StateLemmas

@@ -1,0 +1,5 @@
+pub mod Books
+pub mod Fitness
+pub mod Raises
+pub mod States
+pub mod Topics

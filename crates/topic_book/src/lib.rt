@@ -1,0 +1,14 @@
+//! The book of topics: what each topic is bound to, and up to which versions it was delivered.
+#![tactic(auto)]
+
+mod alike;
+mod book;
+mod fault;
+#[cfg(test)]
+mod tests;
+mod topic;
+mod topics;
+
+pub use book::BookState;
+pub use fault::BookFault;
+pub use topic::{Binding, BookEntries, BookEntry, TopicKey};
