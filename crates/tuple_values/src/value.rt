@@ -89,6 +89,20 @@ impl Tuples {
         }
     }
 
+    /// The list of a vector's tuples, which is moved in. Takes no memory.
+    pub fn from_vec(items: Vec<Tuple>) -> Tuples
+        ensures { result ≡ items.items }
+    {
+        Tuples { items }
+    }
+
+    /// The tuples as a vector. Takes no memory.
+    pub fn into_vec(self) -> Vec<Tuple>
+        ensures { result.items ≡ self }
+    {
+        self.items
+    }
+
     /// Adds a tuple at the end. After an `Err` the tuple is dropped.
     pub fn push(&mut self, tuple: Tuple) -> Result<(), Memory>
         ensures ok { OnOk result (self.new ≡ self.old ++ tuple ∷ []) }
