@@ -1,3 +1,13 @@
+pub mod ClassLemmas
 pub mod ClauseLemmas
+pub mod CompleteLemmas
+pub mod LetterLemmas
+pub mod PlaceLemmas
+pub mod ReadingLemmas
+pub mod RangeLemmas
 pub mod ReadLemmas
 pub mod RunLemmas
+pub mod SoundLemmas
+pub mod SpanLemmas
+pub mod TurnLemmas
+pub mod WideLemmas

@@ -22,3 +22,9 @@ abbrev pub Answers : Option (List ClauseTree) → Result Query QueryFault → Ty
 Answers read (Ok q) = read ≡ Some q.clauses
 Answers read (Err (BadQuery at)) = read ≡ None
 Answers read (Err OutOfMemory) = Unit {0}
+
+-- the answer is the reading of the text, unless memory was wanting
+abbrev pub Reads : Result (List ClauseTree) ℕ → Result Query QueryFault → Type 0
+Reads read (Ok q) = read ≡ Ok q.clauses
+Reads read (Err (BadQuery at)) = read ≡ Err at
+Reads read (Err OutOfMemory) = Unit {0}

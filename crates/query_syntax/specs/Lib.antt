@@ -2,9 +2,15 @@ pub mod Codes
 pub mod Falls
 pub mod Fault
 pub mod Grammar
+pub mod Layout
+pub mod Letters
 pub mod Machine
 pub mod Matching
 pub mod Meaning
 pub mod PartCodes
+pub mod Ranges
+pub mod Reading
+pub mod Steps
 pub mod Tree
 pub mod Views
+pub mod Words

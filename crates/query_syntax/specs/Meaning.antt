@@ -3,7 +3,7 @@ use Rattle.std.specs.Prelude.{List, Bool, false, Option, Some, None}
 use Rattle.tuple_values.specs.Document.{ByteList, Doc}
 use Rattle.query_syntax.specs.Tree.{ClauseTree}
 use Rattle.query_syntax.specs.Grammar.{IsQuery}
-use Rattle.query_syntax.specs.Machine.{query_of}
+use Rattle.query_syntax.specs.Reading.{query_of}
 use Rattle.query_syntax.specs.Matching.{matches}
 
 -- some query is what the text says

@@ -2,10 +2,15 @@
 #![tactic(auto)]
 
 mod fault;
+mod letters;
 mod machine;
 mod matching;
+mod place;
 mod query;
 mod reader;
+mod reading;
+#[cfg(test)]
+mod reading_tests;
 #[cfg(test)]
 mod tests;
 

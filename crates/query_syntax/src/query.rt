@@ -1,11 +1,12 @@
 // What a query says.
-ghost use Rattle.std.specs.Prelude.{◌≡◌, ◌<◌, ◌++◌, ◌∷◌, [], OnErr, OnOk, length, slice_index_or};
+ghost use Rattle.std.specs.Prelude.{◌≡◌, ◌<◌, ◌++◌, ◌∷◌, [], IfOk, OnErr, OnOk, length};
+ghost use Rattle.std.specs.Prelude.{slice_index_or};
 ghost use Rattle.query_syntax.specs.Tree.{what_depth, clauses_depth};
 ghost use Rattle.query_syntax.specs.Views.{clause_tree};
 
 use std::alloc::Global;
 use std::marker::Model;
-use tuple_values::{Memory, Text};
+use tuple_values::{Memory, Text, TryCopy};
 
 /// What a clause means for the list that holds it.
 #[derive(Clone, Copy, Debug)]
@@ -121,5 +122,110 @@ impl Clauses {
         ensures smaller { what_depth (clause_tree result.now).what < clauses_depth self.now }
     {
         &self.items[k as usize]
+    }
+}
+
+fn copy_bound(bound: &Option<Text>, alloc: Global) -> Result<Option<Text>, Memory>
+    ensures { IfOk result (λ copy. copy ≡ bound.now) }
+{
+    match bound {
+        None => Ok(None),
+        Some(text) => Ok(Some(text.copy(alloc)?)),
+    }
+}
+
+impl TryCopy for Test {
+    fn copy(&self, alloc: Global) -> Result<Self, Memory> {
+        match self {
+            Test::Word(word) => Ok(Test::Word(word.copy(alloc)?)),
+            Test::Prefix(word) => Ok(Test::Prefix(word.copy(alloc)?)),
+            Test::Present => Ok(Test::Present),
+            Test::Range {
+                low,
+                low_in,
+                high,
+                high_in,
+            } => {
+                let low = copy_bound(low, alloc)?;
+                let high = copy_bound(high, alloc)?;
+                Ok(Test::Range {
+                    low,
+                    low_in: *low_in,
+                    high,
+                    high_in: *high_in,
+                })
+            }
+        }
+    }
+}
+
+impl What {
+    /// The same thing asked for.
+    #[cycle(copying)]
+    pub fn copy(&self, alloc: Global) -> Result<What, Memory>
+        ensures { IfOk result (λ copy. copy ≡ self.now) }
+    {
+        match self {
+            What::Everything => Ok(What::Everything),
+            What::Field { name, test } => {
+                let name = name.copy(alloc)?;
+                let test = test.copy(alloc)?;
+                Ok(What::Field { name, test })
+            }
+            What::Nested(clauses) => Ok(What::Nested(clauses.copy(alloc)?)),
+        }
+    }
+}
+
+impl Clause {
+    /// The same clause.
+    #[cycle(copying)]
+    pub fn copy(&self, alloc: Global) -> Result<Clause, Memory>
+        ensures { IfOk result (λ copy. copy ≡ self.now) }
+    {
+        let what = self.what.copy(alloc)?;
+        Ok(Clause {
+            role: self.role,
+            what,
+        })
+    }
+}
+
+impl Clauses {
+    /// The same clauses.
+    #[cycle(copying)]
+    pub fn copy(&self, alloc: Global) -> Result<Clauses, Memory>
+        ensures { IfOk result (λ copy. copy ≡ self.now) }
+    {
+        let mut items = Vec::new(alloc);
+        for clause in &self.items {
+            items.push(clause.copy(alloc)?)?;
+        }
+        Ok(Clauses { items })
+    }
+}
+
+impl TryCopy for What {
+    fn copy(&self, alloc: Global) -> Result<Self, Memory> {
+        What::copy(self, alloc)
+    }
+}
+
+impl TryCopy for Clause {
+    fn copy(&self, alloc: Global) -> Result<Self, Memory> {
+        Clause::copy(self, alloc)
+    }
+}
+
+impl TryCopy for Clauses {
+    fn copy(&self, alloc: Global) -> Result<Self, Memory> {
+        Clauses::copy(self, alloc)
+    }
+}
+
+impl TryCopy for Query {
+    fn copy(&self, alloc: Global) -> Result<Self, Memory> {
+        let clauses = Clauses::copy(&self.clauses, alloc)?;
+        Ok(Query { clauses })
     }
 }

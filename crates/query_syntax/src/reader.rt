@@ -2,49 +2,64 @@
 ghost use Rattle.std.specs.Prelude.{◌≡◌, ◌↔◌, IfOk, IfErr, OnOk, Some, List};
 ghost use Rattle.tuple_values.specs.Document.{ByteList, Doc};
 ghost use Rattle.query_syntax.specs.Tree.{ClauseTree};
-ghost use Rattle.query_syntax.specs.Grammar.{IsQuery, IsPlace, star_colon_star, layout_says};
-ghost use Rattle.query_syntax.specs.Machine.{query_of, Ends};
+ghost use Rattle.query_syntax.specs.Views.{what_tree};
+ghost use Rattle.query_syntax.specs.Grammar.{IsQuery, IsPlace, one_clause};
+ghost use Rattle.query_syntax.specs.Machine.{machine, start};
+ghost use Rattle.query_syntax.specs.Reading.{query_of, read_of, Ends, EndsIn};
 ghost use Rattle.query_syntax.specs.Meaning.{IsReadable, text_matches};
 ghost use Rattle.query_syntax.specs.Matching.{matches};
-ghost use Rattle.query_syntax.specs.Fault.{IfPlaced, Answers};
+ghost use Rattle.query_syntax.specs.Fault.{IfPlaced, Answers, Reads};
 
-use crate::machine::{Stage, run};
+use crate::reading::Reading;
 use crate::{Clause, Clauses, Query, QueryFault, Role, What};
 use std::alloc::Global;
 use tuple_values::Memory;
 
-// The query `*:*`.
-fn everything(alloc: Global) -> Result<Query, Memory>
-    ensures { IfOk result (λ query. query.clauses ≡ layout_says star_colon_star) }
+// The query of one clause.
+fn asking(alloc: Global, what: What) -> Result<Query, Memory>
+    ensures { IfOk result (λ query. query.clauses ≡ one_clause (what_tree what)) }
 {
     let mut clauses = Clauses::new(alloc);
-    clauses.push(Clause {
-        role: Role::Optional,
-        what: What::Everything,
-    })?;
+    let role = Role::Optional;
+    clauses.push(Clause { role, what })?;
     Ok(Query { clauses })
 }
 
-// Reads bytes by the machine.
-fn read(alloc: Global, bytes: &[u8]) -> Result<Query, QueryFault>
-    ensures computed { Answers (query_of bytes.now) result }
-    ensures place { IfErr result (λ fault. IfPlaced fault (Ends bytes.now)) }
+// Runs over a text, up to the place of the first character with which no query goes on.
+fn run(reading: &mut Reading, text: &str) -> Result<Option<u64>, Memory>
+    requires { machine reading.old ≡ start }
+    ensures { IfOk result (λ stuck. EndsIn text.now (machine reading.new) stuck) }
 {
-    let stage = match run(bytes) {
-        Ok(stage) => stage,
-        Err(at) => return Err(QueryFault::BadQuery { at }),
-    };
-    match stage {
-        Stage::Behind => Ok(everything(alloc)?),
-        Stage::Before | Stage::Star | Stage::Colon => Err(QueryFault::BadQuery {
-            at: bytes.len() as u64,
+    let mut at: u64 = 0;
+    for c in text.chars() {
+        if !reading.step(c)? {
+            return Ok(Some(at));
+        }
+        at += c.len_utf8() as u64;
+    }
+    Ok(None)
+}
+
+// Reads a text by the machine.
+fn read(alloc: Global, text: &str) -> Result<Query, QueryFault>
+    ensures computed { Answers (query_of text.now) result }
+    ensures place { IfErr result (λ fault. IfPlaced fault (Ends text.now)) }
+{
+    let mut reading = Reading::new(alloc);
+    if let Some(at) = run(&mut reading, text)? {
+        return Err(QueryFault::BadQuery { at });
+    }
+    match reading.finish() {
+        Some(what) => Ok(asking(alloc, what)?),
+        None => Err(QueryFault::BadQuery {
+            at: text.len() as u64,
         }),
     }
 }
 
-/// Reads a query (Lucene's classic query syntax). Today a text is one clause, `*:*`, with blanks
-/// round it. A place is the length of the longest front with which some query begins, in bytes: the
-/// place of the first byte that no continuation repairs.
+/// Reads a query (Lucene's classic query syntax). Today a text is one clause with blanks round it:
+/// `*:*`, or a field with a test. A place is the length of the longest front with which some query
+/// begins, in bytes: the place of the first byte that no continuation repairs.
 pub fn read_query(alloc: Global, text: &str) -> Result<Query, QueryFault>
     // What is read is what the text says, and it says nothing else.
     ensures ok { IfOk result (λ query. IsQuery text.now query.clauses) }
@@ -60,8 +75,9 @@ pub fn read_query(alloc: Global, text: &str) -> Result<Query, QueryFault>
     ensures meaning { IfOk result (λ query. (doc : Doc)
         → text_matches text.now doc ≡ matches query.clauses doc) }
     ensures computed { Answers (query_of text.now) result }
+    ensures reading { Reads (read_of text.now) result }
 {
-    read(alloc, text.as_bytes())
+    read(alloc, text)
 }
 
 /// The computed reading of a text is what the text says: the two definitions of a query agree.

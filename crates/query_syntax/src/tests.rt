@@ -1,6 +1,6 @@
-// What no clause can say: that the definitions mean what the rules say, worked by hand, and that
-// each call that takes memory succeeds.
-use crate::{Clause, Clauses, Query, QueryFault, Role, Test, What, read_query};
+// What no clause can say of matching: that the definitions mean what the rules say, worked by hand,
+// and that each call that takes memory succeeds.
+use crate::{Clause, Clauses, Query, QueryFault, Role, Test, What};
 use std::alloc::Global;
 use std::process::Abort;
 use std::test::Fail;
@@ -8,7 +8,7 @@ use tuple_values::{Memory, Text, Tuple, Tuples, Value};
 
 // A test as a row of a table writes it; a bound is its text and whether it is inside.
 #[derive(Clone, Copy, Debug)]
-enum Ask {
+pub enum Ask {
     Word(&'static str),
     Prefix(&'static str),
     Present,
@@ -186,7 +186,7 @@ fn words(alloc: Global, clauses: &[(Role, &str, &str)]) -> Result<Clauses, Memor
     Ok(all)
 }
 
-fn texts(alloc: Global, fields: &[(&str, &str)]) -> Result<Tuple, Memory> {
+pub fn texts(alloc: Global, fields: &[(&str, &str)]) -> Result<Tuple, Memory> {
     let mut tuple = Tuple::empty(alloc);
     for (name, text) in fields {
         tuple.put(Text::of(alloc, name)?, Value::Text(Text::of(alloc, text)?))?;
@@ -264,52 +264,6 @@ fn prohibited_clauses_alone_match_all_others_at_the_top(rt: HostRuntime) -> Resu
     };
     assert!(rt; !empty.matches(&second));
     Ok(())
-}
-
-// A text with the place of its fault; none where it is a query.
-const TEXTS: [(&str, Option<u64>); 13] = [
-    ("*:*", None),
-    (" *:*\n", None),
-    ("\t\r *:* \n\t\r", None),
-    ("", Some(0)),
-    ("  ", Some(2)),
-    ("*", Some(1)),
-    ("*:", Some(2)),
-    ("*:x", Some(2)),
-    ("* :*", Some(1)),
-    ("*:* x", Some(4)),
-    ("*:**:*", Some(3)),
-    ("x", Some(0)),
-    ("\u{A0}*:*", Some(0)),
-];
-
-// Each text is read, or refused at its place, as its row says.
-fn assert_texts(
-    rt: &impl Abort,
-    alloc: Global,
-    rows: &[(&'static str, Option<u64>)],
-) -> Result<(), Fail> {
-    let tuple = texts(alloc, &[("id", "1")])?;
-    for (text, want) in rows {
-        match read_query(alloc, text) {
-            Ok(query) => {
-                assert_eq!(rt; *want, None, "of {text:?}");
-                assert!(rt; query.matches(&tuple), "of {text:?}");
-            }
-            Err(fault) => {
-                let Some(at) = *want else {
-                    return Err(Fail::from(fault));
-                };
-                assert_eq!(rt; fault, QueryFault::BadQuery { at }, "of {text:?}");
-            }
-        }
-    }
-    Ok(())
-}
-
-#[test]
-fn texts_are_read_or_have_their_place(rt: HostRuntime) -> Result<(), Fail> {
-    assert_texts(&rt, rt.alloc(), &TEXTS)
 }
 
 #[test]

@@ -1,16 +1,15 @@
-use Rattle.std.proofs.Common.{refl}
-use Rattle.query_syntax.specs.Machine.{at_the_end}
-use Rattle.query_syntax.proofs.ReadLemmas.{sticks_none, wanting, wanting_none}
+use Rattle.std.proofs.Common.{refl, sym}
+use Rattle.query_syntax.specs.Machine.{machine}
+use Rattle.query_syntax.specs.Reading.{at_the_end}
+use Rattle.query_syntax.proofs.ReadLemmas.{sticks_none}
 use Rattle.query_syntax.proofs.reader.read.Goals as goal
 
-pub returns-in-Err-clause-computed : goal.returns-in-Err-clause-computed
-returns-in-Err-clause-computed c = sticks_none c.args.bytes.now c.in-Err.at c.in-Err.ensures.stuck
+pub returns-in-Some-clause-computed : goal.returns-in-Some-clause-computed
+returns-in-Some-clause-computed c =
+    let sticks = rw c.in-Some.is at c.in_ok-at.ensures in
+    sticks_none c.args.text.now c.in-Some.at sticks
 
-pub returns-in-Before : goal.returns-in-Before
-returns-in-Before c = record {
-  computed =
-      wanting_none c.args.bytes.now c.in-Ok.stage c.in-Ok.ensures.ended
-      (wanting c.in-Ok.stage c.in-Before.is);
-  place =
-      at_the_end c.in-Ok.stage refl c.in-Ok.ensures.ended (wanting c.in-Ok.stage c.in-Before.is);
-}
+pub returns-in-None-clause-place : goal.returns-in-None-clause-place
+returns-in-None-clause-place c =
+    let ended = rw c.in_default.is at c.in_ok-at.ensures in
+    at_the_end (machine c.run.new.reading) refl ended (sym c.in-None.ensures)

@@ -1,4 +1,5 @@
-use Rattle.query_syntax.proofs.ReadLemmas.{sound, complete}
+use Rattle.query_syntax.proofs.CompleteLemmas.{complete}
+use Rattle.query_syntax.proofs.SoundLemmas.{sound}
 use Rattle.query_syntax.proofs.reader.readings_agree.Goals as goal
 
 pub returns : goal.returns

@@ -1,0 +1,57 @@
+-- The clauses that bytes say, as a function of the bytes (own).
+use Rattle.std.specs.Prelude.{◌≡◌, ℕ, ◌+◌, ◌<◌, length, take, List, [], ◌∷◌, Option, Some, None}
+use Rattle.std.specs.Prelude.{option_map, ◌-◌, Result, Ok, Err}
+use Rattle.tuple_values.specs.Document.{ByteList}
+use Rattle.query_syntax.specs.Tree.{WhatTree, ClauseTree}
+use Rattle.query_syntax.specs.Grammar.{one_clause}
+use Rattle.query_syntax.specs.Machine.{Machine, start}
+use Rattle.query_syntax.specs.Steps.{step, asks_at}
+
+-- the bytes from here on, as long as queries go on so
+abbrev pub run : Option Machine → ByteList → Option Machine
+run None bytes = None
+run (Some m) [] = Some m
+run (Some m) (b ∷ bytes) = run (step m b (b ∷ [])) bytes
+
+-- what a text asks for that ends here
+abbrev pub asks : Option Machine → Option WhatTree
+asks None = None
+asks (Some m) = asks_at m.place m
+
+-- the clauses that the bytes say, where they are a query
+abbrev pub query_of : ByteList → Option (List ClauseTree)
+query_of bytes = option_map one_clause (asks (run (Some start) bytes))
+
+-- the bytes before this place can be read, and with the one there they can't
+pub record Sticks (bytes : ByteList) (at : ℕ) : Type 0 where
+  pub within : at < length bytes
+  pub machine : Machine
+  pub before : run (Some start) (take at bytes) ≡ Some machine
+  pub stuck : run (Some start) (take (at + 1) bytes) ≡ None
+
+-- no query goes on: at a byte with which it can't, or at the end where something is wanting
+pub data Ends (bytes : ByteList) (at : ℕ) : Type 0 where
+  at_a_byte : Sticks bytes at → Ends bytes at
+  at_the_end : (m : Machine) → at ≡ length bytes → run (Some start) bytes ≡ Some m
+      → asks (Some m) ≡ None → Ends bytes at
+
+-- how a run of the code over the bytes ended, unless memory was wanting
+abbrev pub EndsIn : ByteList → Machine → Option ℕ → Type 0
+EndsIn bytes m None = run (Some start) bytes ≡ Some m
+EndsIn bytes m (Some at) = Sticks bytes at
+
+-- what a text asks for that ends at a place, or that place where something is wanting
+abbrev pub asked_at : ℕ → Option WhatTree → Result (List ClauseTree) ℕ
+asked_at at None = Err at
+asked_at at (Some what) = Ok (one_clause what)
+
+-- the reading of the bytes from a place on: their clauses, or the place of the first byte with
+-- which no query goes on, which is that of the end where something is wanting
+abbrev pub read_from : ℕ → Option Machine → ByteList → Result (List ClauseTree) ℕ
+read_from at None bytes = Err (at - 1)
+read_from at (Some m) [] = asked_at at (asks (Some m))
+read_from at (Some m) (b ∷ bytes) = read_from (at + 1) (step m b (b ∷ [])) bytes
+
+-- the reading of a text: its clauses, or the place of its fault
+unfoldable pub read_of : ByteList → Result (List ClauseTree) ℕ
+read_of bytes = read_from 0 (Some start) bytes

@@ -1,0 +1,214 @@
+// What no clause can say of reading: that the grammar means what the rules say, worked by hand.
+use crate::tests::Ask::{Prefix, Present, Range, Word};
+use crate::tests::{Ask, texts};
+use crate::{Clause, QueryFault, Role, Test, What, read_query};
+use std::alloc::Global;
+use std::process::Abort;
+use std::test::Fail;
+use tuple_values::{Text, TryCopy};
+
+// A text, its field and its test.
+const READINGS: [(&str, &str, Ask); 32] = [
+    ("a:b", "a", Word("b")),
+    (" a: \tb\n", "a", Word("b")),
+    ("a:b*", "a", Prefix("b")),
+    ("a:*", "a", Present),
+    ("a:\"b c\"", "a", Word("b c")),
+    ("a:\"\"", "a", Word("")),
+    ("a:\"*\"", "a", Word("*")),
+    ("a:\"x\\\"y\\\\z\"", "a", Word("x\"y\\z")),
+    ("n_i:5", "n_i", Word("5")),
+    ("n_i:-5", "n_i", Word("-5")),
+    ("n_i:-\\5", "n_i", Word("-5")),
+    ("n_i: -5x", "n_i", Word("-5x")),
+    ("a:[b TO c]", "a", Range(Some("b"), true, Some("c"), true)),
+    ("a:{b TO c}", "a", Range(Some("b"), false, Some("c"), false)),
+    (
+        "a:[ b \t TO\n c } ",
+        "a",
+        Range(Some("b"), true, Some("c"), false),
+    ),
+    ("a:{* TO *]", "a", Range(None, false, None, true)),
+    (
+        "a:[\\* TO \"*\"]",
+        "a",
+        Range(Some("*"), true, Some("*"), true),
+    ),
+    (
+        "a:[a* TO T\\O]",
+        "a",
+        Range(Some("a*"), true, Some("TO"), true),
+    ),
+    (
+        "a:[\"TO\" TO TOO]",
+        "a",
+        Range(Some("TO"), true, Some("TOO"), true),
+    ),
+    (
+        "a:[\"\\]\" TO \\]]",
+        "a",
+        Range(Some("]"), true, Some("]"), true),
+    ),
+    (
+        "n_i:[-5 TO (:[]",
+        "n_i",
+        Range(Some("-5"), true, Some("(:["), true),
+    ),
+    ("ANDY:x", "ANDY", Word("x")),
+    ("&&b:a&&b", "&&b", Word("a&&b")),
+    ("a:OR\\*", "a", Word("OR*")),
+    ("a:\\OR*", "a", Prefix("OR")),
+    ("A\\ND:N\\OT", "AND", Word("NOT")),
+    ("\\+a:\\-b", "+a", Word("-b")),
+    ("a+b:c-d+", "a+b", Word("c-d+")),
+    ("a\\ \\::b\\:c", "a :", Word("b:c")),
+    ("\u{e9}:\u{3a9}*", "\u{e9}", Prefix("\u{3a9}")),
+    ("a:\\\u{1f600}x", "a", Word("\u{1f600}x")),
+    ("a:\"\\\u{e9}\"", "a", Word("\u{e9}")),
+];
+
+fn is_bound(found: &Option<Text>, want: Option<&str>) -> bool {
+    match (found, want) {
+        (None, None) => true,
+        (Some(found), Some(want)) => found.as_str() == want,
+        _ => false,
+    }
+}
+
+fn is_test(found: &Test, want: Ask) -> bool {
+    match (found, want) {
+        (Test::Word(found), Word(want)) => found.as_str() == want,
+        (Test::Prefix(found), Prefix(want)) => found.as_str() == want,
+        (Test::Present, Present) => true,
+        (
+            Test::Range {
+                low,
+                low_in,
+                high,
+                high_in,
+            },
+            Range(wanted_low, want_low_in, wanted_high, want_high_in),
+        ) => {
+            is_bound(low, wanted_low)
+                && *low_in == want_low_in
+                && is_bound(high, wanted_high)
+                && *high_in == want_high_in
+        }
+        _ => false,
+    }
+}
+
+// The clause asks for the test on the field.
+fn is_asked(clause: &Clause, name: &str, ask: Ask) -> bool {
+    match (&clause.what, clause.role) {
+        (What::Field { name: found, test }, Role::Optional) => {
+            found.as_str() == name && is_test(test, ask)
+        }
+        _ => false,
+    }
+}
+
+// Each text is read as its row says, and its copy is the same.
+fn assert_readings(
+    rt: &impl Abort,
+    alloc: Global,
+    rows: &[(&'static str, &'static str, Ask)],
+) -> Result<(), Fail> {
+    for (text, name, ask) in rows {
+        let query = read_query(alloc, text)?.copy(alloc)?;
+        assert_eq!(rt; query.clauses.count(), 1, "of {text:?}");
+        assert!(rt; is_asked(query.clauses.get(0), name, *ask), "of {text:?}");
+    }
+    Ok(())
+}
+
+#[test]
+fn a_text_says_its_field_and_test(rt: HostRuntime) -> Result<(), Fail> {
+    assert_readings(&rt, rt.alloc(), &READINGS)
+}
+
+// A text with the place of its fault; none where it asks for everything.
+const PLACES: [(&str, Option<u64>); 53] = [
+    ("*:*", None),
+    (" *:*\n", None),
+    ("\t\r *:* \n\t\r", None),
+    ("", Some(0)),
+    ("  ", Some(2)),
+    ("*", Some(1)),
+    ("*:", Some(2)),
+    ("*:x", Some(2)),
+    ("* :*", Some(1)),
+    ("*:* x", Some(4)),
+    ("*:**:*", Some(3)),
+    ("x", Some(1)),
+    ("foo bar", Some(3)),
+    ("a :b", Some(1)),
+    ("a:", Some(2)),
+    ("a:(b)", Some(2)),
+    ("(a:b)", Some(0)),
+    ("a:b c:d", Some(4)),
+    ("a:b:c", Some(3)),
+    ("a:b?", Some(3)),
+    ("a/b:c", Some(1)),
+    ("+a:b", Some(0)),
+    ("-a:b", Some(0)),
+    ("a:+b", Some(2)),
+    ("a:-", Some(3)),
+    ("a:-x", Some(3)),
+    ("a:-\\x", Some(4)),
+    ("a:-5*", Some(4)),
+    ("a:**", Some(3)),
+    ("a:\"b\" c", Some(6)),
+    ("a:\"b", Some(4)),
+    ("f:AND", Some(5)),
+    ("f:AND ", Some(5)),
+    ("f:AND*", Some(5)),
+    ("AND:", Some(3)),
+    ("||:x", Some(2)),
+    ("\\u0041:x", Some(1)),
+    ("a:b\\", Some(4)),
+    ("a:b\\u", Some(4)),
+    ("a:\"\\u", Some(4)),
+    ("a:[\\u", Some(4)),
+    ("a:[]", Some(3)),
+    ("a:[b]", Some(4)),
+    ("a:[b c]", Some(5)),
+    ("a:[b TOO c]", Some(7)),
+    ("a:[TO TO b]", Some(5)),
+    ("a:[b TO TO]", Some(10)),
+    ("a:[\"a\"b TO c]", Some(6)),
+    ("a:[b\"c TO d]", Some(4)),
+    ("a:[b TO c] d", Some(11)),
+    ("a:[b TO c", Some(9)),
+    ("\u{A0}*:*", Some(2)),
+    ("\u{e9}:b \u{3a9}", Some(5)),
+];
+
+// Each text is read, or refused at its place, as its row says.
+fn assert_places(
+    rt: &impl Abort,
+    alloc: Global,
+    rows: &[(&'static str, Option<u64>)],
+) -> Result<(), Fail> {
+    let tuple = texts(alloc, &[("id", "1")])?;
+    for (text, want) in rows {
+        match read_query(alloc, text) {
+            Ok(query) => {
+                assert_eq!(rt; *want, None, "of {text:?}");
+                assert!(rt; query.matches(&tuple), "of {text:?}");
+            }
+            Err(fault) => {
+                let Some(at) = *want else {
+                    return Err(Fail::from(fault));
+                };
+                assert_eq!(rt; fault, QueryFault::BadQuery { at }, "of {text:?}");
+            }
+        }
+    }
+    Ok(())
+}
+
+#[test]
+fn texts_are_read_or_have_their_place(rt: HostRuntime) -> Result<(), Fail> {
+    assert_places(&rt, rt.alloc(), &PLACES)
+}
