@@ -1,0 +1,15 @@
+pub mod AnswerLemmas
+pub mod ByteLemmas
+pub mod CommaLemmas
+pub mod ListLemmas
+pub mod ListRightLemmas
+pub mod OnceLemmas
+pub mod PairTextLemmas
+pub mod PartLemmas
+pub mod PieceLemmas
+pub mod RightLemmas
+pub mod ScanLemmas
+pub mod SortLemmas
+pub mod StableLemmas
+pub mod TermLemmas
+pub mod TermTextLemmas

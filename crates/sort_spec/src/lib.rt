@@ -1,0 +1,20 @@
+//! Sorts, the order that they write, and the readers of sorts, pairs and lists of names.
+#![tactic(auto)]
+
+mod comparing;
+mod fault;
+mod item;
+mod pair;
+mod reader;
+mod scan;
+mod sorting;
+mod term;
+#[cfg(test)]
+mod tests;
+
+pub use comparing::orders_are_weak;
+pub use fault::SortFault;
+pub use pair::{OnPair, OnSpec};
+pub use reader::{read_names, read_on, read_sort, readings_agree};
+pub use sorting::sort_tuples;
+pub use term::{SortSpec, SortTerm};
