@@ -10,3 +10,4 @@ pub mod ByteLemmas
 pub mod StateLemmas
 pub mod SnapshotLemmas
 pub mod FitLemmas
+pub mod ReadingLemmas

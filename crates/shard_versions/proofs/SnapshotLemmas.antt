@@ -26,7 +26,7 @@ first_place-above id at (x ∷ h) n e = go (is_write_of id x.kind) e (first_plac
     go false e f = omega (arith, f e)
 
 -- an id is written among slots that begin with an entry's
-writes_id-slot : (id : ByteList) (v : ℕ) (k : Kind) (ss : List Slot)
+pub writes_id-slot : (id : ByteList) (v : ℕ) (k : Kind) (ss : List Slot)
     → writes_id id (slot_of v k ++ ss) ≡ (is_write_of id k || writes_id id ss)
 writes_id-slot id v (Put d) ss = refl
 writes_id-slot id v (Del i) ss = refl
@@ -74,7 +74,7 @@ latest-slot v (Sent s w d) ss replaced f = ap (λ b. cond b [] ((v, with_version
 latest-slot v Mark ss replaced f = refl
 
 -- the version after an entry's slot
-last_version-slot : (v : ℕ) (k : Kind) (ss : List Slot)
+pub last_version-slot : (v : ℕ) (k : Kind) (ss : List Slot)
     → last_version v (slot_of (version_after v k) k ++ ss) ≡ last_version (version_after v k) ss
 last_version-slot v (Put d) ss = refl
 last_version-slot v (Del i) ss = refl
@@ -142,24 +142,32 @@ module _ (h : History) (place : ℕ) (x : Entry) (inside : place < length (settl
       ∙ (replaced-writes id (suc place) count v (drop (suc place) h)
       ∙ ap (λ e. writes_id id (slots_after v e)) (sym rest)))
 
+  -- it goes on by one entry, of which it is known whether a later one replaces it
+  pub reading-goes_by : (replaced : Bool)
+      → ((id : ByteList) → written_id x.kind ≡ Some id → (v : ℕ) → replaced ≡ writes_id id (slots_after v (drop (suc place) (settled h))))
+      → (version after : ℕ) (ps qs : List (ℕ × Doc)) → IsReading h place version ps → after ≡ version_after version x.kind
+      → qs ≡ ps ++ shown after (left_of x.kind) replaced → IsReading h (place + 1) after qs
+  unfolding slots_after
+  reading-goes_by replaced f version after ps qs r v q =
+      let now : ℕ = version_after version x.kind in
+      let ss : List Slot = slots_after now (drop (suc place) (settled h)) in
+      let first : latest (slot_of now x.kind ++ ss) ≡ shown now (left_of x.kind) replaced ++ latest ss =
+      latest-slot now x.kind ss replaced (λ id w. f id w now) in
+      let all : latest (slots_after version (drop place (settled h))) ≡ shown now (left_of x.kind) replaced ++ latest ss =
+      ap (λ e. latest (slots_after version e)) private_rest ∙ first in
+      let last : last_version version (slots_after version (drop place (settled h))) ≡ last_version now ss =
+      ap (λ e. last_version version (slots_after version e)) private_rest ∙ last_version-slot version x.kind ss in
+      rw (add-one place, q, v) record {
+        documents = append_assoc ps (shown now (left_of x.kind) replaced) (latest ss) ∙ (ap (λ e. ps ++ e) (sym all) ∙ r.documents);
+        reached = sym last ∙ r.reached;
+        few = omega (arith, r.few, version_after-next version x.kind);
+      }
+
   -- it goes on by one entry
   pub reading-goes : (next version after : ℕ) (ns : List ℕ) (ps qs : List (ℕ × Doc)) → IsReading h place version ps
       → ns ≡ nexts_of 0 h → next ≡ get_or ns place next → after ≡ version_after version x.kind
       → qs ≡ ps ++ shown after (left_of x.kind) (is_replaced next (length (settled h)))
       → IsReading h (place + 1) after qs
-  unfolding slots_after
   reading-goes next version after ns ps qs r right at v q =
-      let now : ℕ = version_after version x.kind in
-      let ss : List Slot = slots_after now (drop (suc place) (settled h)) in
-      let b : Bool = is_replaced next (length (settled h)) in
-      let first : latest (slot_of now x.kind ++ ss) ≡ shown now (left_of x.kind) b ++ latest ss =
-      latest-slot now x.kind ss b (λ id w. replaced-right next ns right at id w now) in
-      let all : latest (slots_after version (drop place (settled h))) ≡ shown now (left_of x.kind) b ++ latest ss =
-      ap (λ e. latest (slots_after version e)) private_rest ∙ first in
-      let last : last_version version (slots_after version (drop place (settled h))) ≡ last_version now ss =
-      ap (λ e. last_version version (slots_after version e)) private_rest ∙ last_version-slot version x.kind ss in
-      rw (add-one place, q, v) record {
-        documents = append_assoc ps (shown now (left_of x.kind) b) (latest ss) ∙ (ap (λ e. ps ++ e) (sym all) ∙ r.documents);
-        reached = sym last ∙ r.reached;
-        few = omega (arith, r.few, version_after-next version x.kind);
-      }
+      reading-goes_by (is_replaced next (length (settled h))) (λ id w n. replaced-right next ns right at id w n)
+      version after ps qs r v q

@@ -9,3 +9,4 @@ pub mod Places
 pub mod Links
 pub mod Indexes
 pub mod States
+pub mod Readings

@@ -7,7 +7,7 @@ use tuple_values::{Memory, Text, Tuple, Value};
 
 /// The document's id, and the empty text where it has none.
 #[tactic(auto, unfolding(crate::specs::Documents::id_of))]
-pub(crate) fn id_of(document: &Tuple) -> &str
+pub fn id_of(document: &Tuple) -> &str
     ensures { result.now ≡ id_of document.now }
 {
     match document.get("id") {

@@ -49,7 +49,8 @@ pub(crate) fn sent_tag(kind: &Kind) -> u64
     }
 }
 
-fn is_write_of(kind: &Kind, id: &str) -> bool
+/// Whether the entry writes this id.
+pub(crate) fn is_write_of(kind: &Kind, id: &str) -> bool
     ensures { result ≡ is_write_of id.now kind.now }
 {
     match written_id(kind) {

@@ -8,6 +8,7 @@ mod entry;
 mod fault;
 mod fitness;
 mod index;
+mod reading;
 mod shard;
 mod size;
 mod snapshot;
@@ -15,8 +16,10 @@ mod snapshot;
 mod tests;
 
 pub use cut::{Cut, CutMark, CutMarks, CutPart, OwnMark, OwnMarks, Record};
+pub use document::id_of;
 pub use entry::{Entry, Kind, Step};
 pub use fault::ShardFault;
 pub use fitness::{are_fit, are_storable, is_storable};
+pub use reading::{document_at, snapshot_of, top_of};
 pub use shard::ShardState;
 pub use snapshot::Snapshot;

@@ -92,7 +92,7 @@ pub(crate) fn version_after(last: u64, kind: &Kind) -> u64
 }
 
 /// The document that the entry leaves at its id.
-fn left(kind: &Kind) -> Option<&Tuple>
+pub(crate) fn left(kind: &Kind) -> Option<&Tuple>
     ensures { option_copied result ≡ left_of kind.now }
 {
     match kind {
