@@ -25,7 +25,8 @@ use Rattle.once_core.specs.declared.event.Event.{Event}
 use Rattle.once_core.specs.declared.event.Event.TheVariants.{Write, Look, Send, Bind, Store, Forget}
 use Rattle.once_core.specs.Cells.{Place, place_of, cell_of, cells_in, history_at, shard_history}
 use Rattle.once_core.specs.Law.{IsFitAt, IsFitCell, IsReadableEntry, IsTrueKind, AreTrue, AreSent, IsCovered, IsLaw}
-use Rattle.once_core.specs.Worlds.{MayJoin, MayStore, IsAllowed, AreAllowed, grown, noted, after_event, next, run, seen_by, actor_of, nothing_yet}
+use Rattle.once_core.specs.Allowed.{MayJoin, MayStore, IsAllowed}
+use Rattle.once_core.specs.Worlds.{AreAllowed, grown, noted, after_event, next, run, seen_by, actor_of, nothing_yet}
 use Rattle.once_core.proofs.GrowthLemmas.{Grows, top_up, true_up, sent_up, sent_join, sent_none, covered_up, covered_still, grown_here, grown_other, grown_grows, noted_grows, seen_grows}
 
 -- what may stand at a place may stand there together

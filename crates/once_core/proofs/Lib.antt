@@ -6,3 +6,8 @@ pub mod DeliveredLemmas
 pub mod CellLemmas
 pub mod WrittenLemmas
 pub mod TurnLemmas
+pub mod SeenLemmas
+pub mod StepLemmas
+pub mod DispatchLemmas
+pub mod StoreLemmas
+pub mod RunLemmas

@@ -1,5 +1,6 @@
 -- The promise of delivery, over the histories alone (own).
-use Rattle.std.specs.Prelude.{ℕ, ◌≡◌, ◌<◌, ◌≤◌, Bool, true, false, List, slice_index, Some, Contains, bytes_eq}
+use Rattle.std.specs.Prelude.{ℕ, ◌≡◌, ◌<◌, ◌≤◌, Bool, true, false, List, slice_index, Some}
+use Rattle.std.specs.Prelude.{Contains, bytes_eq}
 use Rattle.std.specs.List.{AllByRecursion}
 use Rattle.tuple_values.specs.Document.{ByteList, Doc}
 use Rattle.tuple_values.specs.declared.names.NameShards.{NameShards}
@@ -39,7 +40,7 @@ pub record Stands (src : ByteList) (p : ℕ × Doc) (h : History) : Type 0 where
   pub read_as : p.1 ≡ with_version p.0 doc
   pub is_from : IsFrom delivered src p.0 doc
 
--- the versions of one id that are delivered from the topic's source rise, so each comes at most once
+-- the versions of one id that are delivered from the source rise, so each comes at most once
 abbrev pub ComesOnce : List NameShards → Histories → ByteList → ByteList → Type 0
 ComesOnce names hs src dest =
     (shard : ℕ) (id : ByteList) → IsRising (sents src id (shard_history names hs dest shard))

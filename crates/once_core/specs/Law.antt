@@ -1,6 +1,7 @@
 -- The law that all histories together keep: what was delivered, in which order, and how much of it
 -- a checkpoint stands for (own).
-use Rattle.std.specs.Prelude.{ℕ, ◌≡◌, ◌<◌, ◌≤◌, max, true, List, [], slice_index, Option, Some, None}
+use Rattle.std.specs.Prelude.{ℕ, ◌≡◌, ◌<◌, ◌≤◌, max, true, List, [], slice_index, Option, Some}
+use Rattle.std.specs.Prelude.{None}
 use Rattle.std.specs.List.{AllByRecursion}
 use Rattle.tuple_values.specs.Document.{ByteList, Doc}
 use Rattle.tuple_values.specs.declared.names.NameShards.{NameShards}
@@ -64,12 +65,18 @@ abbrev pub IsSent : List NameShards → Histories → Binding → ByteList → �
 IsSent names hs b dest p =
     Reaches p.0 (sents b.src (id_of p.1) (home_history names hs dest (id_of p.1)))
 
+-- where the topic takes the document and its version is above `low` and at most `high`, it was sent
+abbrev pub IsSentIfTaken : List NameShards → Histories → Binding → ByteList → (low high : ℕ)
+    → ℕ × Doc → Type 0
+IsSentIfTaken names hs b dest low high p =
+    takes b p.1 → low < p.0 → p.0 ≤ high → IsSent names hs b dest p
+
 -- each current document of this history that the topic takes, above `low` and at most `high`, was
 -- sent to the destination in its version or a later one
 unfoldable pub AreSent : List NameShards → Histories → Binding → ByteList → History
     → (low high : ℕ) → Type 0
 AreSent names hs b dest h low high =
-    AllByRecursion (λ p. takes b p.1 → low < p.0 → p.0 ≤ high → IsSent names hs b dest p) (current h)
+    AllByRecursion (IsSentIfTaken names hs b dest low high) (current h)
 
 -- a checkpoint is right at a shard of the topic's source, which has this history
 pub record IsCovered (names : List NameShards) (hs : Histories) (b : Binding) (shard : ℕ)
@@ -92,4 +99,5 @@ pub record IsLaw (names : List NameShards) (hs : Histories) : Type 0 where
   -- coverage: up to its checkpoint, each current document that a topic takes was sent
   pub covered : (key : TopicKey) (b : Binding) → binding_of key hs.book ≡ Some b
       → (shard : ℕ) → shard < shards_of names b.src
-      → IsCovered names hs b shard (shard_history names hs b.src shard) (checkpoint key hs.book shard)
+      → IsCovered names hs b shard (shard_history names hs b.src shard)
+      (checkpoint key hs.book shard)

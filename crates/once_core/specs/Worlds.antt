@@ -1,76 +1,21 @@
--- Events, which of them are allowed, and what they do (own).
-use Rattle.std.specs.Prelude.{ℕ, ◌+◌, ◌≡◌, ◌≢◌, ◌<◌, ◌≤◌, nat_lt, ◌==◌, not, ◌&&◌, Bool, List, [], ◌∷◌, ◌++◌, length, set, take, replicate, slice_index, Option, Some, None, if◌then◌else◌, filter}
-use Rattle.std.specs.List.{AllByRecursion}
-use Rattle.tuple_values.specs.Document.{ByteList}
+-- What events do, and what their actors have seen (own).
+use Rattle.std.specs.Prelude.{ℕ, ◌+◌, nat_lt, ◌==◌, not, ◌&&◌, Bool, List, [], ◌∷◌, ◌++◌, length}
+use Rattle.std.specs.Prelude.{set}
+use Rattle.std.specs.Prelude.{take, replicate, if◌then◌else◌, filter}
 use Rattle.tuple_values.specs.declared.names.NameShards.{NameShards}
-use Rattle.shard_versions.specs.Histories.{History, top}
-use Rattle.shard_versions.specs.Deliveries.{admitted, marked, ArePlain, AreSentsOf}
+use Rattle.shard_versions.specs.Histories.{History}
+use Rattle.shard_versions.specs.Deliveries.{admitted, marked}
 use Rattle.shard_versions.specs.declared.entry.Entry.{Entry}
-use Rattle.topic_book.specs.Books.{Book, binding_of, checkpoint, raises}
-use Rattle.topic_book.specs.Fitness.{MayFollow, IsFitEntry, shards_of}
-use Rattle.topic_book.specs.declared.topic.TopicKey.{TopicKey}
-use Rattle.topic_book.specs.declared.topic.Binding.{Binding}
+use Rattle.topic_book.specs.Books.{raises}
 use Rattle.topic_book.specs.declared.topic.BookEntry.{BookEntry}
 use Rattle.topic_book.specs.declared.topic.BookEntry.TheVariants as book
-use Rattle.once_core.specs.Cells.{Place, place_of, cells_in, history_at, shard_history}
-use Rattle.once_core.specs.Law.{IsFitCell, IsReadableEntry, AreTrue, AreSent}
+use Rattle.once_core.specs.Cells.{cells_in, history_at}
+use Rattle.once_core.specs.Allowed.{IsAllowed}
 use Rattle.once_core.specs.declared.event.Event.{Event}
 use Rattle.once_core.specs.declared.event.Event.TheVariants.{Write, Look, Send, Bind, Store, Forget}
 use Rattle.once_core.specs.declared.world.World.{World}
 use Rattle.once_core.specs.declared.world.Known.{Known}
 use Rattle.once_core.specs.declared.world.Histories.{Histories}
-
--- a step that the actor may make in the cell: it isn't empty, the cell is a shard's and may have
--- it, and each entry carries the actor's number
-pub record IsStep (names : List NameShards) (hs : Histories) (actor cell : ℕ)
-    (step : List Entry) : Type 0 where
-  pub filled : 0 < length step
-  pub in_range : cell < length hs.shards
-  pub fit : IsFitCell names cell step
-  pub own : AllByRecursion (λ e. e.by ≡ actor) step
-
--- the place isn't one of this collection
-abbrev pub IsElsewhere : Option Place → ByteList → Type 0
-IsElsewhere None collection = Unit {0}
-IsElsewhere (Some place) collection = place.collection ≢ collection
-
--- a step of deliveries from one other collection, whose writes the actor has seen committed
-pub record IsDispatch (names : List NameShards) (seen : Histories) (cell : ℕ) (src : ByteList)
-    (step : List Entry) : Type 0 where
-  pub sent : AreSentsOf src step
-  pub elsewhere : IsElsewhere (place_of names cell) src
-  pub true_sents : AreTrue names seen cell step
-
--- an entry that may follow in the book, over known collections, with a query that can be read
-pub record MayJoin (names : List NameShards) (entries : Book) (e : BookEntry) : Type 0 where
-  pub follows : MayFollow entries e
-  pub fit : IsFitEntry names e
-  pub readable : IsReadableEntry e
-
--- a checkpoint that may be stored: over what the actor has seen, the topic is bound, each number
--- is at most the top of its shard, and where there is a destination each current document that
--- the topic takes, above the checkpoint seen and at most that number, was sent there
-pub record MayStore (names : List NameShards) (seen : Histories) (key : TopicKey)
-    (upto : List ℕ) : Type 0 where
-  pub binding : Binding
-  pub bound : binding_of key seen.book ≡ Some binding
-  pub counted : length upto ≡ shards_of names binding.src
-  pub reached : (shard : ℕ) → shard < shards_of names binding.src
-      → slice_index upto shard ≤ top (shard_history names seen binding.src shard)
-  pub sent : (dest : ByteList) → binding.dest ≡ Some dest
-      → (shard : ℕ) → shard < shards_of names binding.src
-      → AreSent names seen binding dest (shard_history names seen binding.src shard)
-      (checkpoint key seen.book shard) (slice_index upto shard)
-
--- the event is allowed over these histories, to an actor who has seen those
-abbrev pub IsAllowed : List NameShards → (seen hs : Histories) → Event → Type 0
-IsAllowed names seen hs (Write actor cell step) = IsStep names hs actor cell step × ArePlain step
-IsAllowed names seen hs (Look actor cell) = cell ≤ length hs.shards
-IsAllowed names seen hs (Send actor cell src step) =
-    IsStep names hs actor cell step × IsDispatch names seen cell src step
-IsAllowed names seen hs (Bind actor key b) = MayJoin names hs.book (book.Bind actor key b)
-IsAllowed names seen hs (Store actor key upto) = MayStore names seen key upto
-IsAllowed names seen hs (Forget actor) = Unit {0}
 
 -- the entries follow the cell's history
 unfoldable pub grown : Histories → ℕ → List Entry → Histories
@@ -98,7 +43,8 @@ is_of actor cell k = (k.actor == actor) && (k.cell == cell)
 -- how many entries of the cell the actor knows
 abbrev pub known_upto : ℕ → ℕ → List Known → ℕ
 known_upto actor cell [] = 0
-known_upto actor cell (k ∷ known) = if is_of actor cell k then k.upto else known_upto actor cell known
+known_upto actor cell (k ∷ known) =
+    if is_of actor cell k then k.upto else known_upto actor cell known
 
 -- what the actor knows of these histories, of which the first is this cell's
 abbrev pub known_shards : ℕ → List Known → ℕ → List History → List History

@@ -1,16 +1,11 @@
 // Which versions are stored for a topic.
 ghost use Rattle.std.specs.Prelude.{◌≡◌, [], ◌∷◌, slice_index};
-ghost use Rattle.topic_book.specs.Books.{same_key, checkpoint, raises};
+ghost use Rattle.topic_book.specs.Books.{checkpoint, raises};
 
-use topic_book::{BookEntry, TopicKey};
+use topic_book::{BookEntry, TopicKey, same_key};
 
-fn is_same_key(a: &TopicKey, b: &TopicKey) -> bool
-    ensures { result ≡ same_key a.now b.now }
-{
-    a.checkpoints.as_str() == b.checkpoints.as_str() && a.id.as_str() == b.id.as_str()
-}
-
-fn number_at(numbers: &[u64], shard: usize) -> u64
+/// The number at a shard, and 0 past the last.
+pub(crate) fn number_at(numbers: &[u64], shard: usize) -> u64
     ensures { result ≡ slice_index numbers.now shard }
 {
     numbers.get(shard).copied().unwrap_or(0)
@@ -26,18 +21,18 @@ fn stored(entry: &BookEntry, key: &TopicKey, shard: usize) -> u64
             key: bound,
             binding,
             ..
-        } if is_same_key(key, bound) => number_at(binding.init.as_slice(), shard),
+        } if same_key(key, bound) => number_at(binding.init.as_slice(), shard),
         BookEntry::Store {
             key: stored,
             upto,
             ..
-        } if is_same_key(key, stored) => number_at(upto.as_slice(), shard),
+        } if same_key(key, stored) => number_at(upto.as_slice(), shard),
         BookEntry::Bind { .. } | BookEntry::Store { .. } => 0,
     }
 }
 
-// The topic's checkpoint at a shard.
-fn checkpoint(book: &[BookEntry], key: &TopicKey, shard: usize) -> u64
+/// The topic's checkpoint at a shard.
+pub(crate) fn checkpoint(book: &[BookEntry], key: &TopicKey, shard: usize) -> u64
     ensures { result ≡ checkpoint key.now book.now shard }
 {
     let mut greatest: u64 = 0;

@@ -1,11 +1,19 @@
 //! The core: events over histories, and the law that every list of allowed events keeps.
 #![tactic(auto)]
 
+mod allowed;
 mod apply;
+mod bind;
 mod book;
 mod cells;
+mod dispatch;
 mod event;
 mod law;
+mod origin;
+mod replay;
+mod seen;
+mod step;
+mod store;
 #[cfg(test)]
 mod tests;
 mod turn;
@@ -14,5 +22,6 @@ mod writes;
 
 pub use event::{Event, Events};
 pub use law::{delivery_holds, law_holds};
+pub use replay::{Replay, replay_events};
 pub use turn::{next, nothing_yet};
 pub use world::{Histories, Known, KnownList, ShardHistories, World};

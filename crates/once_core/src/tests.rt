@@ -1,6 +1,6 @@
 // What no clause can say: that the definitions mean what the rules say, and that each call that
 // takes memory succeeds.
-use crate::{Event, Events, World, delivery_holds, law_holds, next, nothing_yet};
+use crate::{Event, Events, World, delivery_holds, law_holds, next, nothing_yet, replay_events};
 use shard_versions::{Entry, Kind, Step};
 use std::alloc::Global;
 use std::test::Fail;
@@ -26,10 +26,57 @@ enum Plain {
 
 use Plain::{Mark, Put, Sent};
 
+// Events as a row of a table writes them. The document has the id 1, and the topic goes from c to
+// d, from version 0 on. A writes, with a Mark or without, binds, stores and forgets.
+#[derive(Clone, Copy)]
+enum Act {
+    Write(i64),
+    Leave(i64),
+    Look(u64),
+    Send(u64, u64, i64),
+    Bind,
+    Store(u64),
+    Forget,
+}
+
+use Act::{Bind, Forget, Leave, Look, Send, Store, Write};
+
+const LATE: [Act; 6] = [
+    Write(1),
+    Look(B),
+    Write(2),
+    Look(A),
+    Send(A, 2, 2),
+    Send(B, 1, 1),
+];
+
+const STORED: [Act; 4] = [Write(1), Bind, Send(A, 1, 1), Store(1)];
+
+// Events, and the place of the first one that isn't allowed.
+const ROWS: [(&[Act], Option<u64>); 6] = [
+    (&LATE, None),
+    (&[Write(1), Bind, Store(1)], Some(2)),
+    (&STORED, None),
+    (&[Leave(1), Bind, Store(1)], Some(2)),
+    (&[Write(1), Bind, Send(A, 1, 1), Forget, Store(1)], Some(4)),
+    (&[], None),
+];
+
 fn document(alloc: Global, n: i64) -> Result<Tuple, Memory> {
     let mut document = Tuple::empty(alloc);
     document.put(Text::of(alloc, "id")?, Value::Text(Text::of(alloc, "1")?))?;
     document.put(Text::of(alloc, "n_i")?, Value::Long(n))?;
+    Ok(document)
+}
+
+fn delivered(alloc: Global, version: u64, n: i64) -> Result<Tuple, Memory> {
+    let mut document = document(alloc, n)?;
+    document.put(
+        Text::of(alloc, "_src_s")?,
+        Value::Text(Text::of(alloc, "c")?),
+    )?;
+    let version = i64::try_from(version).unwrap_or(0);
+    document.put(Text::of(alloc, "_src_version_l")?, Value::Long(version))?;
     Ok(document)
 }
 
@@ -39,31 +86,14 @@ fn step_of(alloc: Global, by: u64, entries: &[Plain]) -> Result<Step, Memory> {
         let entry = match *plain {
             Put(n) => Entry::put(by, document(alloc, n)?),
             Sent(version, n) => {
-                Entry::sent(by, Text::of(alloc, "c")?, version, document(alloc, n)?)
+                let document = delivered(alloc, version, n)?;
+                Entry::sent(by, Text::of(alloc, "c")?, version, document)
             }
             Mark => Entry::mark(by),
         };
         step.push(entry)?;
     }
     Ok(step)
-}
-
-fn written(alloc: Global, actor: u64, n: i64) -> Result<Event, Memory> {
-    let step = step_of(alloc, actor, &[Put(n), Mark])?;
-    Ok(Event::Write {
-        actor,
-        cell: C,
-        step,
-    })
-}
-
-fn sent(alloc: Global, actor: u64, version: u64, n: i64) -> Result<Event, Memory> {
-    Ok(Event::Send {
-        actor,
-        cell: D,
-        src: Text::of(alloc, "c")?,
-        step: step_of(alloc, actor, &[Sent(version, n)])?,
-    })
 }
 
 fn key(alloc: Global) -> Result<TopicKey, Memory> {
@@ -79,30 +109,58 @@ fn versions(alloc: Global, version: u64) -> Result<Versions, Memory> {
     Ok(list)
 }
 
-fn bound(alloc: Global, actor: u64) -> Result<Event, Memory> {
-    let binding = Binding {
+fn binding(alloc: Global) -> Result<Binding, Memory> {
+    Ok(Binding {
         src: Text::of(alloc, "c")?,
         q: Text::of(alloc, "*:*")?,
         fields: FieldList::new(alloc),
         dest: Some(Text::of(alloc, "d")?),
         init: versions(alloc, 0)?,
-    };
-    Ok(Event::Bind {
-        actor,
-        key: key(alloc)?,
-        binding,
     })
 }
 
-fn stored(alloc: Global, actor: u64, version: u64) -> Result<Event, Memory> {
-    Ok(Event::Store {
-        actor,
-        key: key(alloc)?,
-        upto: versions(alloc, version)?,
+fn written(alloc: Global, entries: &[Plain]) -> Result<Event, Memory> {
+    Ok(Event::Write {
+        actor: A,
+        cell: C,
+        step: step_of(alloc, A, entries)?,
     })
 }
 
-fn start(alloc: Global) -> Result<World, Memory> {
+fn event(alloc: Global, act: Act) -> Result<Event, Memory> {
+    match act {
+        Write(n) => written(alloc, &[Put(n), Mark]),
+        Leave(n) => written(alloc, &[Put(n)]),
+        Look(actor) => Ok(Event::Look { actor, cell: C }),
+        Send(actor, version, n) => Ok(Event::Send {
+            actor,
+            cell: D,
+            src: Text::of(alloc, "c")?,
+            step: step_of(alloc, actor, &[Sent(version, n)])?,
+        }),
+        Bind => Ok(Event::Bind {
+            actor: A,
+            key: key(alloc)?,
+            binding: binding(alloc)?,
+        }),
+        Store(version) => Ok(Event::Store {
+            actor: A,
+            key: key(alloc)?,
+            upto: versions(alloc, version)?,
+        }),
+        Forget => Ok(Event::Forget { actor: A }),
+    }
+}
+
+fn events(alloc: Global, acts: &[Act]) -> Result<Events, Memory> {
+    let mut events = Events::new(alloc);
+    for act in acts {
+        events.push(event(alloc, *act)?)?;
+    }
+    Ok(events)
+}
+
+fn names(alloc: Global) -> Result<Names, Memory> {
     let mut names = Names::new(alloc);
     for name in ["c", "ck", "d"] {
         names.push(NameShards {
@@ -110,15 +168,7 @@ fn start(alloc: Global) -> Result<World, Memory> {
             shards: 1,
         })?;
     }
-    nothing_yet(alloc, names.as_slice())
-}
-
-fn run(alloc: Global, events: &Events) -> Result<World, Memory> {
-    let mut world = start(alloc)?;
-    for event in events.as_slice() {
-        world = next(alloc, world, event)?;
-    }
-    Ok(world)
+    Ok(names)
 }
 
 // Whether the entry is the one that the row writes, of this writer.
@@ -171,16 +221,20 @@ fn upto(world: &World, actor: u64, cell: u32) -> u64 {
 }
 
 #[test]
+fn core_rows(rt: HostRuntime) -> Result<(), Fail> {
+    let alloc = rt.alloc();
+    let names = names(alloc)?;
+    for (row, (acts, refused_at)) in ROWS.iter().enumerate() {
+        let replay = replay_events(alloc, &names, &events(alloc, acts)?)?;
+        assert_eq!(rt; replay.refused_at, *refused_at, "row {row}");
+    }
+    Ok(())
+}
+
+#[test]
 fn a_version_that_came_late_is_not_delivered(rt: HostRuntime) -> Result<(), Fail> {
     let alloc = rt.alloc();
-    let mut events = Events::new(alloc);
-    events.push(written(alloc, A, 1)?)?;
-    events.push(Event::Look { actor: B, cell: C })?;
-    events.push(written(alloc, A, 2)?)?;
-    events.push(Event::Look { actor: A, cell: C })?;
-    events.push(sent(alloc, A, 2, 2)?)?;
-    events.push(sent(alloc, B, 1, 1)?)?;
-    let world = run(alloc, &events)?;
+    let world = replay_events(alloc, &names(alloc)?, &events(alloc, &LATE)?)?.world;
     assert!(rt; stands(&world, C, &[(A, Put(1)), (A, Mark), (A, Put(2)), (A, Mark)]));
     assert!(rt; stands(&world, D, &[(A, Sent(2, 2)), (A, Mark)]));
     assert_eq!(rt; upto(&world, B, C), 2);
@@ -190,38 +244,30 @@ fn a_version_that_came_late_is_not_delivered(rt: HostRuntime) -> Result<(), Fail
 }
 
 #[test]
-fn a_topic_is_bound_sent_and_stored(rt: HostRuntime) -> Result<(), Fail> {
+fn a_checkpoint_is_stored_once(rt: HostRuntime) -> Result<(), Fail> {
     let alloc = rt.alloc();
-    let mut events = Events::new(alloc);
-    events.push(written(alloc, A, 1)?)?;
-    events.push(bound(alloc, A)?)?;
-    events.push(sent(alloc, A, 1, 1)?)?;
-    events.push(stored(alloc, A, 1)?)?;
-    events.push(stored(alloc, A, 1)?)?;
-    let world = run(alloc, &events)?;
-    assert!(rt; stands(&world, D, &[(A, Sent(1, 1)), (A, Mark)]));
-    assert_eq!(rt; world.histories.book.len(), 2);
+    let world = replay_events(alloc, &names(alloc)?, &events(alloc, &STORED)?)?.world;
+    let world = next(alloc, world, &event(alloc, Store(1))?)?;
+    let book = world.histories.book.as_slice();
     assert!(rt;
         matches!(
-            world.histories.book.get(0),
-            Some(BookEntry::Bind { by: 1, .. })
-        )
-    );
-    assert!(rt;
-        matches!(
-            world.histories.book.get(1),
-            Some(BookEntry::Store { by: 1, .. })
+            book,
+            [
+                BookEntry::Bind { by: A, .. },
+                BookEntry::Store { by: A, .. }
+            ]
         )
     );
     assert_eq!(rt; upto(&world, A, 3), 2);
-    let world = next(alloc, world, &Event::Forget { actor: A })?;
+    let world = next(alloc, world, &event(alloc, Forget)?)?;
     assert_eq!(rt; world.known.len(), 0);
     Ok(())
 }
 
 #[test]
 fn nothing_stands_at_the_start(rt: HostRuntime) -> Result<(), Fail> {
-    let world = start(rt.alloc())?;
+    let alloc = rt.alloc();
+    let world = nothing_yet(alloc, names(alloc)?.as_slice())?;
     assert_eq!(rt; world.histories.shards.len(), 3);
     assert!(rt; stands(&world, C, &[]));
     assert_eq!(rt; world.histories.book.len(), 0);

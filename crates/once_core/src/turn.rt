@@ -1,5 +1,6 @@
 // The world after an event.
-ghost use Rattle.std.specs.Prelude.{◌≡◌, ◌++◌, [], ◌==◌, not, length, filter, replicate, IfOk, OnOk};
+ghost use Rattle.std.specs.Prelude.{◌≡◌, ◌++◌, [], ◌==◌, not, length, filter, replicate};
+ghost use Rattle.std.specs.Prelude.{IfOk, OnOk};
 ghost use Rattle.once_core.specs.Cells.{cells_in};
 ghost use Rattle.once_core.specs.Worlds.{length_at, is_of, knows, known_after, next, nothing_yet};
 
@@ -75,7 +76,8 @@ fn known_after(histories: &Histories, event: &Event, known: KnownList) -> Result
 }
 
 fn knows_book(histories: &Histories, actor: u64, known: KnownList) -> Result<KnownList, Memory>
-    ensures { IfOk result (λ new. new ≡ knows histories.now actor (length histories.now.shards) known) }
+    ensures { IfOk result (λ new. new
+        ≡ knows histories.now actor (length histories.now.shards) known) }
 {
     let cells = histories.shards.len();
     if cells > u32::MAX as usize {

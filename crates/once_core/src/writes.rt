@@ -1,22 +1,11 @@
 // What a step of deliveries adds to a history.
 ghost use Rattle.std.specs.Prelude.{◌≡◌, ◌++◌, not, IfOk};
-ghost use Rattle.shard_versions.specs.Documents.{id_of};
-ghost use Rattle.shard_versions.specs.Deliveries.{are_below, sent_version, admits, admits_kind, admitted, marked};
+ghost use Rattle.shard_versions.specs.Deliveries.{are_below, sent_version, admits, admits_kind};
+ghost use Rattle.shard_versions.specs.Deliveries.{admitted, marked};
 
-use shard_versions::{Entry, Kind, Step};
+use shard_versions::{Entry, Kind, Step, id_of};
 use std::alloc::Global;
-use tuple_values::{Memory, TryCopy, Tuple, Value};
-
-// The document's id, and the empty text where it has none.
-#[tactic(auto, unfolding(shard_versions::specs::Documents::id_of))]
-fn id_of(document: &Tuple) -> &str
-    ensures { result.now ≡ id_of document.now }
-{
-    match document.get("id") {
-        Some(Value::Text(id)) => id.as_str(),
-        _ => "",
-    }
-}
+use tuple_values::{Memory, TryCopy};
 
 // Whether the entry delivers this version of the source and id, or a later one.
 fn reaches(kind: &Kind, src: &str, id: &str, version: u64) -> bool
@@ -33,7 +22,7 @@ fn reaches(kind: &Kind, src: &str, id: &str, version: u64) -> bool
 }
 
 // Whether no entry delivers this version of the source and id, or a later one.
-fn admits(entries: &[Entry], src: &str, id: &str, version: u64) -> bool
+pub(crate) fn admits(entries: &[Entry], src: &str, id: &str, version: u64) -> bool
     ensures { result ≡ admits entries.now src.now id.now version }
 {
     for entry in entries {

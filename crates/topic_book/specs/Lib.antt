@@ -1,4 +1,5 @@
 pub mod Books
+pub mod Cells
 pub mod Fitness
 pub mod Raises
 pub mod States

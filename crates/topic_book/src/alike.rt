@@ -6,7 +6,7 @@ use crate::{Binding, TopicKey};
 use tuple_values::{FieldList, Text};
 
 /// Whether the keys are the same.
-pub(crate) fn same_key(a: &TopicKey, b: &TopicKey) -> bool
+pub fn same_key(a: &TopicKey, b: &TopicKey) -> bool
     ensures { result ≡ same_key a.now b.now }
 {
     a.checkpoints.as_str() == b.checkpoints.as_str() && a.id.as_str() == b.id.as_str()
