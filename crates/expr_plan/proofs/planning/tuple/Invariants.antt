@@ -1,0 +1,7 @@
+use Rattle.std.proofs.Common.{◌≡◌, []}
+use Rattle.expr_plan.specs.Walk.{with_fields}
+use Rattle.expr_plan.proofs.planning.tuple.Given as goal
+
+-- the fields are those of the parameters so far
+abbrev pub invariant-loop-given : goal.invariant-loop-given
+invariant-loop-given l = l.fields ≡ with_fields [] l.yielded

@@ -1,0 +1,62 @@
+-- What the arguments of a call give, by name (own).
+use Rattle.std.specs.Prelude.{ℕ, Bool, false, ◌||◌, List, [], ◌∷◌, Option, Some, None, bytes_eq}
+use Rattle.std.specs.Prelude.{if◌then◌else◌}
+use Rattle.tuple_values.specs.Document.{ByteList}
+use Rattle.query_syntax.specs.Tree.{ClauseTree}
+use Rattle.sort_spec.specs.declared.term.SortTerm.{SortTerm}
+use Rattle.expr_plan.specs.declared.param.Given.{Given}
+use Rattle.expr_plan.specs.declared.param.Param.{Param}
+use Rattle.expr_plan.specs.declared.param.Param.TheVariants.{Nothing, Literal, Plain, Names, Sort}
+use Rattle.expr_plan.specs.declared.param.Param.TheVariants.{Query, Number}
+
+-- whether there is a parameter of the name
+abbrev pub is_given : ByteList → List Given → Bool
+is_given name [] = false
+is_given name (g ∷ given) = bytes_eq g.name name || is_given name given
+
+-- the first parameter of the name; nothing where there is none
+abbrev pub param_at : ByteList → List Given → Param
+param_at name [] = Nothing
+param_at name (g ∷ given) = if bytes_eq g.name name then g.param else param_at name given
+
+-- the parameters, with nothing in place of the first of the name
+abbrev pub taken : ByteList → List Given → List Given
+taken name [] = []
+taken name (g ∷ given) =
+    if bytes_eq g.name name then record g { param = Nothing } ∷ given else g ∷ taken name given
+
+-- the first name of a list that isn't given
+abbrev pub first_absent : List ByteList → List Given → Option ByteList
+first_absent [] given = None
+first_absent (name ∷ names) given =
+    if is_given name given then first_absent names given else Some name
+
+-- a parameter as a text
+abbrev pub text_in : Param → ByteList
+text_in (Plain text) = text
+text_in _ = []
+
+-- a parameter as a list of names, if it is one
+abbrev pub names_maybe : Param → Option (List ByteList)
+names_maybe (Names names) = Some names
+names_maybe _ = None
+
+-- a parameter as a list of names
+abbrev pub names_in : Param → List ByteList
+names_in (Names names) = names
+names_in _ = []
+
+-- a parameter as a sort
+abbrev pub sort_in : Param → List SortTerm
+sort_in (Sort terms) = terms
+sort_in _ = []
+
+-- a parameter as a query
+abbrev pub query_in : Param → List ClauseTree
+query_in (Query query) = query.clauses
+query_in _ = []
+
+-- a parameter as a number, if it is one
+abbrev pub number_in : Param → Option ℕ
+number_in (Number n) = Some n
+number_in _ = None

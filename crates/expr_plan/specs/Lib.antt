@@ -1,0 +1,10 @@
+pub mod ConditionTree
+pub mod ConditionViews
+pub mod ExprTree
+pub mod ExprViews
+pub mod Fault
+pub mod Given
+pub mod Functions
+pub mod Shapes
+pub mod Walk
+pub mod Sources

@@ -1,0 +1,120 @@
+// The functions that are known, and what each takes.
+ghost use Rattle.std.specs.Prelude.{◌≡◌, option_map};
+ghost use Rattle.expr_plan.specs.Functions.{function_of, name_of, shape_of, search_shape, next_operand, first_missing, takes};
+
+use crate::param::Params;
+
+/// A function of expressions.
+#[derive(Clone, Copy, Debug, PartialEq, Eq)]
+pub enum Function {
+    Search,
+    Tuple,
+}
+
+/// What the value under a key is to be.
+#[derive(Clone, Copy, Debug)]
+pub enum Shape {
+    /// A number where it is bare and whole, else a text.
+    Literal,
+    /// Whatever it is, it changes nothing.
+    Anything,
+    /// Names of fields.
+    Names,
+    /// Names of fields, of which none is `*`.
+    FieldNames,
+    Sort,
+    Query,
+    /// A whole number within these limits.
+    Number { low: u64, high: u64 },
+}
+
+/// The function of a name.
+pub(crate) fn function_of(name: &str) -> Option<Function>
+    ensures { result ≡ function_of name.now }
+{
+    if name == "search" {
+        Some(Function::Search)
+    } else if name == "tuple" {
+        Some(Function::Tuple)
+    } else {
+        None
+    }
+}
+
+impl Function {
+    /// Its name.
+    pub(crate) fn name(self) -> &'static str
+        ensures { result.now ≡ name_of self }
+    {
+        match self {
+            Function::Search => "search",
+            Function::Tuple => "tuple",
+        }
+    }
+
+    /// Whether it takes as many inputs.
+    pub(crate) fn takes(self, inputs: u64) -> bool
+        ensures { result ≡ takes self inputs }
+    {
+        match self {
+            Function::Search | Function::Tuple => inputs == 0,
+        }
+    }
+
+    /// What the value under a key is to be; none where there is no such key.
+    pub(crate) fn shape_of(self, key: &str) -> Option<Shape>
+        ensures { result ≡ shape_of self key.now }
+    {
+        match self {
+            Function::Search => search_shape(key),
+            Function::Tuple => Some(Shape::Literal),
+        }
+    }
+
+    /// The operand that a plain argument is, behind the parameters that are given; none where all
+    /// operands are.
+    pub(crate) fn next_operand(self, params: &Params) -> Option<&'static str>
+        ensures { option_map (λ name. name.now) result ≡ next_operand self params.now.items.items }
+    {
+        match self {
+            Function::Search if !params.has("collection") => Some("collection"),
+            Function::Search | Function::Tuple => None,
+        }
+    }
+
+    /// The first parameter that has to be given and isn't.
+    pub(crate) fn first_missing(self, params: &Params) -> Option<&'static str>
+        ensures { option_map (λ name. name.now) result ≡ first_missing self params.now.items.items }
+    {
+        match self {
+            Function::Search if !params.has("collection") => Some("collection"),
+            Function::Search if !params.has("q") => Some("q"),
+            Function::Search if !params.has("fl") => Some("fl"),
+            Function::Search if !params.has("sort") => Some("sort"),
+            Function::Search | Function::Tuple => None,
+        }
+    }
+}
+
+fn search_shape(key: &str) -> Option<Shape>
+    ensures { result ≡ search_shape key.now }
+{
+    if key == "q" {
+        Some(Shape::Query)
+    } else if key == "fl" {
+        Some(Shape::FieldNames)
+    } else if key == "sort" {
+        Some(Shape::Sort)
+    } else if key == "rows" {
+        Some(Shape::Number {
+            low: 0,
+            high: i64::MAX as u64,
+        })
+    } else if key == "qt" {
+        Some(Shape::Anything)
+    } else if key == "partitionKeys" {
+        Some(Shape::Names)
+    } else {
+        None
+    }
+}

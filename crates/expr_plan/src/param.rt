@@ -1,0 +1,167 @@
+// What the arguments of a call give.
+ghost use Rattle.std.specs.Prelude.{◌≡◌, ◌++◌, ◌∷◌, [], OnOk, OnErr, IfOk};
+ghost use Rattle.expr_plan.specs.Given.{is_given, param_at, taken, text_in, names_in, sort_in, query_in, number_in, names_maybe};
+
+use query_syntax::{Clauses, Query};
+use sort_spec::SortSpec;
+use std::alloc::Global;
+use std::mem;
+use tuple_values::{FieldList, Memory, Text, Value};
+
+/// What a parameter is read as.
+#[derive(Debug, Drop)]
+pub enum Param {
+    /// It changes nothing, or was taken.
+    Nothing,
+    Literal(Value),
+    Plain(Text),
+    Names(FieldList),
+    Sort(SortSpec),
+    Query(Query),
+    Number(u64),
+}
+
+/// A parameter under its key, or under the name of the operand that it is.
+#[derive(Debug, Drop)]
+pub struct Given {
+    pub(crate) name: Text,
+    pub(crate) param: Param,
+}
+
+/// Parameters in the order of the arguments.
+#[derive(Debug, Drop)]
+pub(crate) struct Params {
+    items: Vec<Given>,
+}
+
+impl Params {
+    /// No parameter.
+    pub fn new(alloc: Global) -> Params
+        ensures { result.items.items ≡ [] }
+    {
+        Params {
+            items: Vec::new(alloc),
+        }
+    }
+
+    /// Adds one at the end.
+    pub fn push(&mut self, name: Text, param: Param) -> Result<(), Memory>
+        ensures ok { OnOk result
+            (self.new.items.items ≡ self.old.items.items ++ record { name = name; param = param } ∷ []) }
+        ensures err { OnErr result (self.new.items.items ≡ self.old.items.items) }
+    {
+        self.items.push(Given { name, param })?;
+        Ok(())
+    }
+
+    /// Whether there is one of the name.
+    pub fn has(&self, name: &str) -> bool
+        ensures { result ≡ is_given name.now self.now.items.items }
+    {
+        for given in &self.items {
+            if given.name.as_str() == name {
+                return true;
+            }
+        }
+        false
+    }
+
+    /// Takes the first of the name out, and leaves nothing there.
+    pub fn take(&mut self, name: &str) -> Param
+        ensures value { result ≡ param_at name.now self.old.items.items }
+        ensures rest { self.new.items.items ≡ taken name.now self.old.items.items }
+    {
+        take(&mut self.items, name)
+    }
+
+    /// Takes out a text; the empty one where there is none.
+    pub fn take_text(&mut self, alloc: Global, name: &str) -> Result<Text, Memory>
+        ensures value { IfOk result (λ text. text ≡ text_in (param_at name.now self.old.items.items)) }
+        ensures rest { self.new.items.items ≡ taken name.now self.old.items.items }
+    {
+        match self.take(name) {
+            Param::Plain(text) => Ok(text),
+            _ => Text::of(alloc, ""),
+        }
+    }
+
+    /// Takes out a list of names; the empty one where there is none.
+    pub fn take_names(&mut self, alloc: Global, name: &str) -> FieldList
+        ensures value { result ≡ names_in (param_at name.now self.old.items.items) }
+        ensures rest { self.new.items.items ≡ taken name.now self.old.items.items }
+    {
+        match self.take(name) {
+            Param::Names(names) => names,
+            _ => FieldList::new(alloc),
+        }
+    }
+
+    /// Takes out a list of names, if there is one.
+    pub fn take_names_maybe(&mut self, name: &str) -> Option<FieldList>
+        ensures value { result ≡ names_maybe (param_at name.now self.old.items.items) }
+        ensures rest { self.new.items.items ≡ taken name.now self.old.items.items }
+    {
+        match self.take(name) {
+            Param::Names(names) => Some(names),
+            _ => None,
+        }
+    }
+
+    /// Takes out a sort; that of no term where there is none.
+    pub fn take_sort(&mut self, alloc: Global, name: &str) -> SortSpec
+        ensures value { result ≡ sort_in (param_at name.now self.old.items.items) }
+        ensures rest { self.new.items.items ≡ taken name.now self.old.items.items }
+    {
+        match self.take(name) {
+            Param::Sort(sort) => sort,
+            _ => SortSpec::new(alloc),
+        }
+    }
+
+    /// Takes out a query; that of no clause where there is none.
+    pub fn take_query(&mut self, alloc: Global, name: &str) -> Query
+        ensures value { result.clauses ≡ query_in (param_at name.now self.old.items.items) }
+        ensures rest { self.new.items.items ≡ taken name.now self.old.items.items }
+    {
+        match self.take(name) {
+            Param::Query(query) => query,
+            _ => Query {
+                clauses: Clauses::new(alloc),
+            },
+        }
+    }
+
+    /// Takes out a number, if there is one.
+    pub fn take_number(&mut self, name: &str) -> Option<u64>
+        ensures value { result ≡ number_in (param_at name.now self.old.items.items) }
+        ensures rest { self.new.items.items ≡ taken name.now self.old.items.items }
+    {
+        match self.take(name) {
+            Param::Number(n) => Some(n),
+            _ => None,
+        }
+    }
+
+    /// The parameters as a vector.
+    pub fn into_vec(self) -> Vec<Given>
+        ensures { result.items ≡ self.items.items }
+    {
+        self.items
+    }
+}
+
+fn take(items: &mut [Given], name: &str) -> Param
+    ensures value { result ≡ param_at name.now items.old }
+    ensures rest { items.new ≡ taken name.now items.old }
+{
+    match items.split_first_mut() {
+        None => Param::Nothing,
+        Some((first, rest)) => {
+            if first.name.as_str() == name {
+                mem::replace(&mut first.param, Param::Nothing)
+            } else {
+                take(rest, name)
+            }
+        }
+    }
+}

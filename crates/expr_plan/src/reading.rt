@@ -1,0 +1,146 @@
+// The value under a key, read as what it is to be.
+ghost use Rattle.std.specs.Prelude.{◌≡◌, IfOk, MatchResult, Ok, Err};
+ghost use Rattle.tuple_values.specs.Whole.{whole_of};
+ghost use Rattle.query_syntax.specs.Reading.{read_of};
+ghost use Rattle.sort_spec.specs.Reading.{sort_of, names_of};
+ghost use Rattle.expr_plan.specs.Functions.{name_of};
+ghost use Rattle.expr_plan.specs.Shapes.{literal, within, number_param, names_param, fields_param, sort_param, query_param, read_as};
+ghost use Rattle.expr_plan.specs.Walk.{IsFaultOf};
+ghost use Rattle.expr_plan.specs.declared.fault.PlanFault.TheVariants.{BadParam};
+
+use crate::PlanFault;
+use crate::function::{Function, Shape};
+use crate::param::Param;
+use expr_reader::Word;
+use query_syntax::{QueryFault, read_query};
+use sort_spec::{SortFault, read_names, read_sort};
+use std::alloc::Global;
+use tuple_values::{Memory, Text, TryCopy, Value, whole};
+
+/// The fault of a parameter.
+pub(crate) fn bad(alloc: Global, function: Function, name: &str) -> Result<PlanFault, Memory>
+    ensures { IfOk result (λ fault. fault ≡ BadParam (name_of function) name.now) }
+{
+    let function = Text::of(alloc, function.name())?;
+    let name = Text::of(alloc, name)?;
+    Ok(PlanFault::BadParam { function, name })
+}
+
+fn literal(alloc: Global, word: &Word) -> Result<Value, Memory>
+    ensures { IfOk result (λ value. value ≡ literal word.now.text word.now.quoted) }
+{
+    if !word.quoted
+        && let Some(n) = whole(word.text.as_str())
+    {
+        return Ok(Value::Long(n));
+    }
+    Ok(Value::Text(word.text.copy(alloc)?))
+}
+
+fn within(low: u64, high: u64, number: Option<i64>) -> Option<u64>
+    ensures { result ≡ within low high number }
+{
+    match number {
+        Some(n) if n >= 0 => {
+            let n = n as u64;
+            if low <= n && n <= high { Some(n) } else { None }
+        }
+        _ => None,
+    }
+}
+
+fn read_number(
+    alloc: Global,
+    function: Function,
+    key: &str,
+    number: Option<u64>,
+) -> Result<Param, PlanFault>
+    ensures { MatchResult result (λ p. number_param function key.now number ≡ Ok p)
+        (IsFaultOf (number_param function key.now number)) }
+{
+    match number {
+        Some(n) => Ok(Param::Number(n)),
+        None => Err(bad(alloc, function, key)?),
+    }
+}
+
+fn read_name_list(
+    alloc: Global,
+    function: Function,
+    key: &str,
+    text: &str,
+) -> Result<Param, PlanFault>
+    ensures { MatchResult result (λ p. names_param function key.now (names_of text.now) ≡ Ok p)
+        (IsFaultOf (names_param function key.now (names_of text.now))) }
+{
+    match read_names(alloc, text) {
+        Ok(names) => Ok(Param::Names(names)),
+        Err(SortFault::BadSort { .. }) => Err(bad(alloc, function, key)?),
+        Err(SortFault::OutOfMemory) => Err(PlanFault::OutOfMemory),
+    }
+}
+
+fn read_field_list(
+    alloc: Global,
+    function: Function,
+    key: &str,
+    text: &str,
+) -> Result<Param, PlanFault>
+    ensures { MatchResult result (λ p. fields_param function key.now (names_of text.now) ≡ Ok p)
+        (IsFaultOf (fields_param function key.now (names_of text.now))) }
+{
+    match read_names(alloc, text) {
+        Ok(names) if names.contains("*") => Err(bad(alloc, function, key)?),
+        Ok(names) => Ok(Param::Names(names)),
+        Err(SortFault::BadSort { .. }) => Err(bad(alloc, function, key)?),
+        Err(SortFault::OutOfMemory) => Err(PlanFault::OutOfMemory),
+    }
+}
+
+fn read_sort_text(alloc: Global, text: &str) -> Result<Param, PlanFault>
+    ensures { MatchResult result (λ p. sort_param (sort_of text.now) ≡ Ok p)
+        (IsFaultOf (sort_param (sort_of text.now))) }
+{
+    match read_sort(alloc, text) {
+        Ok(sort) => Ok(Param::Sort(sort)),
+        Err(SortFault::BadSort { at }) => Err(PlanFault::BadSort { at }),
+        Err(SortFault::OutOfMemory) => Err(PlanFault::OutOfMemory),
+    }
+}
+
+fn read_query_text(alloc: Global, text: &str) -> Result<Param, PlanFault>
+    ensures { MatchResult result (λ p. query_param (read_of text.now) ≡ Ok p)
+        (IsFaultOf (query_param (read_of text.now))) }
+{
+    match read_query(alloc, text) {
+        Ok(query) => Ok(Param::Query(query)),
+        Err(QueryFault::BadQuery { at }) => Err(PlanFault::BadQuery { at }),
+        Err(QueryFault::OutOfMemory) => Err(PlanFault::OutOfMemory),
+    }
+}
+
+/// Reads a word under a key of the function.
+pub(crate) fn read_as(
+    alloc: Global,
+    shape: Shape,
+    function: Function,
+    key: &str,
+    word: &Word,
+) -> Result<Param, PlanFault>
+    ensures { MatchResult result
+        (λ p. read_as shape function key.now word.now.text word.now.quoted ≡ Ok p)
+        (IsFaultOf (read_as shape function key.now word.now.text word.now.quoted)) }
+{
+    let text = word.text.as_str();
+    match shape {
+        Shape::Literal => Ok(Param::Literal(literal(alloc, word)?)),
+        Shape::Anything => Ok(Param::Nothing),
+        Shape::Names => read_name_list(alloc, function, key, text),
+        Shape::FieldNames => read_field_list(alloc, function, key, text),
+        Shape::Sort => read_sort_text(alloc, text),
+        Shape::Query => read_query_text(alloc, text),
+        Shape::Number { low, high } => {
+            read_number(alloc, function, key, within(low, high, whole(text)))
+        }
+    }
+}
