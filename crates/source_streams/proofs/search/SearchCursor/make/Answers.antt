@@ -1,0 +1,18 @@
+use Rattle.std.proofs.Common.{refl}
+use Rattle.expr_plan.specs.Sources.{search_list}
+use Rattle.source_streams.proofs.search.SearchCursor.make.Goals as goal
+
+pub returns : goal.returns
+unfolding search_list
+returns c =
+    rw (
+      c.in_ok-rest.ensures,
+      c.in-Search.is,
+      c.first_of-first.ensures,
+      c.as_slice-2.ensures.value,
+      c.in_ok-found-2.ensures,
+      c.in_ok-found.ensures,
+      c.in_ok-by.ensures,
+      c.as_slice.ensures,
+      c.as_ref.ensures.value,
+    ) refl
