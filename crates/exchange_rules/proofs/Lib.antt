@@ -1,0 +1,12 @@
+pub mod GrowthLemmas
+pub mod FollowLemmas
+pub mod ReachLemmas
+pub mod StandLemmas
+pub mod PrimitiveLemmas
+pub mod AloneLemmas
+pub mod CountLemmas
+pub mod LookingLemmas
+pub mod StepLemmas
+pub mod ShardLemmas
+pub mod CellLemmas
+pub mod RoutingLemmas

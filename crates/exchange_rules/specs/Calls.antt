@@ -1,0 +1,66 @@
+-- What a call says of its writer: it followed its course, or stopped for want of memory (own).
+use Rattle.std.specs.Prelude.{ℕ, ◌+◌, ◌≡◌, Bool, false, not, count_by, Result, Ok, Err}
+use Rattle.shard_versions.specs.Histories.{is_mark}
+use Rattle.exchange_rules.specs.Cells.{Noted, in_shard, in_book}
+use Rattle.exchange_rules.specs.Courses.{Course, ends}
+use Rattle.exchange_rules.specs.Acts.{own_of, at_owns}
+use Rattle.exchange_rules.specs.Following.{Writer, Reaches, Answers}
+use Rattle.exchange_rules.specs.declared.fault.SiteFault.{SiteFault}
+use Rattle.exchange_rules.specs.declared.fault.SiteFault.TheVariants.{ShardFull, OutOfMemory}
+
+-- whether the entry is a write of a shard
+abbrev pub is_write : Noted → Bool
+is_write (in_shard e) = not (is_mark e.kind)
+is_write (in_book e) = false
+
+-- from old to new the writer followed the course down to this rest, and so many of the entries
+-- that it appended are writes
+pub record Stands {A : Type 0} (old new : Writer) (course rest : Course A) (writes : ℕ)
+    : Type 0 where
+  pub reached : Reaches old new course rest
+  pub counted : writes ≡ count_by is_write (at_owns new.seen (own_of reached.acts))
+
+-- a call stopped in its course for want of memory, when so many writes stood: those before the
+-- call and those that it appended
+pub record IsStopped {A : Type 0} (before : ℕ) (old new : Writer) (course : Course A) (stand : ℕ)
+    : Type 0 where
+  pub rest : Course A
+  pub writes : ℕ
+  pub stood : Stands old new course rest writes
+  pub counted : stand ≡ before + writes
+
+-- a call, before which so many writes stood, was refused as its course says, or stopped for want
+-- of memory
+abbrev pub Refused : {A : Type 0} → ℕ → Writer → Writer → Course (Result A SiteFault) → SiteFault
+    → Type 0
+Refused before old new course (ShardFull collection shard stand) =
+    Answers old new course (Err (ShardFull collection shard stand))
+Refused before old new course (OutOfMemory stand) = IsStopped before old new course stand
+
+-- a part of a call, before which so many writes stood, followed its course to this answer and
+-- appended so many writes; or it was refused or stopped
+abbrev pub Passed : {A : Type 0} → ℕ → Writer → Writer → Course (Result A SiteFault) → ℕ
+    → Result A SiteFault → Type 0
+Passed before old new course writes (Ok a) = Stands old new course (ends (Ok a)) writes
+Passed before old new course writes (Err fault) = Refused before old new course fault
+
+-- a call followed its course to this answer, or stopped for want of memory
+abbrev pub Answered : {A : Type 0} → Writer → Writer → Course (Result A SiteFault)
+    → Result A SiteFault → Type 0
+Answered old new course (Ok a) = Answers old new course (Ok a)
+Answered old new course (Err fault) = Refused 0 old new course fault
+
+-- why a call that only looks stopped: for want of memory alone
+abbrev pub Stopped : {A : Type 0} → Writer → Writer → Course A → SiteFault → Type 0
+Stopped old new course (ShardFull collection shard stand) = ⊥
+Stopped old new course (OutOfMemory stand) = IsStopped 0 old new course stand
+
+-- a call that only looks followed its course to this answer and appended no write, or stopped
+abbrev pub Completed : {A : Type 0} → Writer → Writer → Course A → Result A SiteFault → Type 0
+Completed old new course (Ok a) = Stands old new course (ends a) 0
+Completed old new course (Err fault) = Stopped old new course fault
+
+-- the fault is this refusal, or want of memory where so many writes stand
+abbrev pub Tells : SiteFault → ℕ → SiteFault → Type 0
+Tells refusal stand (ShardFull collection shard n) = ShardFull collection shard n ≡ refusal
+Tells refusal stand (OutOfMemory n) = n ≡ stand

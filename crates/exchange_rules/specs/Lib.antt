@@ -1,0 +1,11 @@
+pub mod Cells
+pub mod Courses
+pub mod Acts
+pub mod Following
+pub mod Primitives
+pub mod Calls
+pub mod Steps
+pub mod Rows
+pub mod Own
+pub mod Looking
+pub mod Laws

@@ -1,0 +1,37 @@
+-- Steps that stand right behind a look at their cell (own).
+use Rattle.std.specs.Prelude.{ℕ, ◌≡◌, Bool, List, [], ◌∷◌, Option, Some, None}
+use Rattle.tuple_values.specs.Document.{ByteList}
+use Rattle.tuple_values.specs.declared.write.Write.{Write}
+use Rattle.shard_versions.specs.declared.cut.CutMark.{CutMark}
+use Rattle.shard_versions.specs.declared.cut.OwnMark.{OwnMark}
+use Rattle.exchange_rules.specs.Cells.{Log}
+use Rattle.exchange_rules.specs.Courses.{Course, ends, looks, makes}
+use Rattle.exchange_rules.specs.Acts.{Act, a_look, a_step}
+use Rattle.exchange_rules.specs.Rows.{Layout, index_course, commit_course, cut_course}
+
+-- each step of the course comes right after a look at its cell; the last look was at this one
+abbrev pub LooksFirst : {A : Type 0} → Option ℕ → Course A → Type 0
+LooksFirst last (ends a) = Unit {0}
+LooksFirst last (looks cell see) = (log : Log) → LooksFirst (Some cell) (see log)
+LooksFirst last (makes cell step rest) = (last ≡ Some cell) × LooksFirst None rest
+
+-- the own mark begins where this mark of its cell ends
+abbrev pub IsBehind : Option CutMark → OwnMark → Type 0
+IsBehind None o = ⊥
+IsBehind (Some m) o = (o.cell ≡ m.cell) × (o.from ≡ m.upto)
+
+-- each own mark begins where the mark right before it, which is of its cell, ends; this is the
+-- last one
+abbrev pub AreBehind : Option CutMark → List Act → Type 0
+AreBehind last [] = Unit {0}
+AreBehind last (a_look m ∷ acts) = AreBehind (Some m) acts
+AreBehind last (a_step o ∷ acts) = IsBehind last o × AreBehind None acts
+
+-- updates, commits and cuts look first
+pub record RowsLookFirst : Type 0 where
+  pub index : (l : Layout) (collection : ByteList) (writes : List Write) (commit : Bool)
+      → LooksFirst None (index_course l collection writes commit)
+  pub commit : (l : Layout) (collection : ByteList)
+      → LooksFirst None (commit_course l collection)
+  pub cut : (l : Layout) (collections : List ByteList)
+      → LooksFirst None (cut_course l.names [] collections)

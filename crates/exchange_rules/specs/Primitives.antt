@@ -1,0 +1,32 @@
+-- The two things that a writer can do at a cell: look at it, and append a step to it (own).
+use Rattle.std.specs.Prelude.{ℕ, ◌≡◌, ◌≢◌, List, [], ◌∷◌, ◌++◌, get_or, set, length}
+use Rattle.std.specs.List.{AllByRecursion}
+use Rattle.exchange_rules.specs.Cells.{Log, Deed, author_of}
+use Rattle.exchange_rules.specs.Courses.{appended}
+use Rattle.exchange_rules.specs.Acts.{one_more}
+use Rattle.exchange_rules.specs.Following.{Writer}
+
+-- the writer after a look at the cell, where these entries had come since it had seen the cell
+abbrev pub looked_with : Writer → ℕ → Log → Writer
+looked_with w cell more = record w {
+  seen = set w.seen cell (get_or w.seen cell [] ++ more);
+  marks = w.marks ++ record { cell = cell; upto = length (get_or w.seen cell [] ++ more) } ∷ [];
+  looks = one_more cell w.looks;
+}
+
+-- the writer looked at the cell once, and what had come there since is by others
+pub record LooksAt (old new : Writer) (cell : ℕ) : Type 0 where
+  pub more : Log
+  pub others : AllByRecursion (λ n. author_of n ≢ old.me) more
+  pub is : new ≡ looked_with old cell more
+
+-- the writer after it appended the step right behind what it has seen of the cell
+abbrev pub made : Writer → ℕ → List Deed → Writer
+made w cell step = record w {
+  seen = appended w.me w.seen cell step;
+  own = w.own ++ record {
+    cell = cell;
+    from = length (get_or w.seen cell []);
+    count = length step;
+  } ∷ [];
+}

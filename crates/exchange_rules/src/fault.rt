@@ -1,0 +1,21 @@
+// The refusals of a site's calls.
+use thiserror::Error;
+use tuple_values::Text;
+
+/// Why a call of a site was refused. `stand` counts the writes of this call that were appended
+/// before; they stay.
+#[derive(Debug, Drop, Error)]
+pub enum SiteFault {
+    /// The counted bytes of the collection's shard with the next step's would pass the limit.
+    #[error("ShardFull")]
+    ShardFull {
+        collection: Text,
+        shard: u16,
+        stand: u64,
+    },
+    /// An allocation was refused.
+    #[error("out of memory")]
+    OutOfMemory {
+        stand: u64,
+    },
+}

@@ -1,0 +1,70 @@
+-- Parts of a cut, one after another, as a call takes them.
+use Rattle.std.proofs.Common.{◌≡◌, ℕ, ◌+◌, ◌<◌, ◌≤◌, List, [], ◌∷◌, ◌++◌, length, get_or, drop, sym, ap, ◌∙◌, subst}
+use Rattle.std.proofs.lemmas.List.{drop_all}
+use Rattle.std.specs.Prelude.{Result}
+use Rattle.tuple_values.specs.Document.{ByteList}
+use Rattle.tuple_values.specs.declared.names.NameShards.{NameShards}
+use Rattle.shard_versions.specs.Shards.{Shown}
+use Rattle.shard_versions.specs.declared.cut.CutPart.{CutPart}
+use Rattle.topic_book.specs.Cells.{cell_of}
+use Rattle.topic_book.specs.Fitness.{shards_of}
+use Rattle.exchange_rules.specs.Cells.{history_in}
+use Rattle.exchange_rules.specs.Courses.{Course, ends, looks}
+use Rattle.exchange_rules.specs.Following.{Writer}
+use Rattle.exchange_rules.specs.Primitives.{LooksAt}
+use Rattle.exchange_rules.specs.Calls.{Stands, Completed}
+use Rattle.exchange_rules.specs.Rows.{Layout, shown_of, part_of, cut_shards, cut_course}
+use Rattle.exchange_rules.specs.declared.fault.SiteFault.{SiteFault}
+use Rattle.exchange_rules.proofs.PrimitiveLemmas.{looks_from}
+use Rattle.stream_site.proofs.PlaceLemmas.{from_item}
+
+-- the part that a look shows
+pub part_looked : (old mid : Writer) (c : ByteList) (shard cell : ℕ) (cut cut' : List CutPart)
+    (s : Shown) → cell < length old.seen → LooksAt old mid cell
+    → s ≡ shown_of (history_in (get_or mid.seen cell []))
+    → cut' ≡ cut ++ record { collection = c; shard = shard; snapshot = s } ∷ []
+    → Stands old mid (looks cell (λ log. ends (cut ++ part_of c shard (history_in log) ∷ [])))
+    (ends cut') 0
+part_looked old mid c shard cell cut cut' s lt l e f =
+    let look = looks cell (λ log. ends (cut ++ part_of c shard (history_in log) ∷ [])) in
+    let same : cut' ≡ cut ++ part_of c shard (history_in (get_or mid.seen cell [])) ∷ [] =
+    f ∙ ap (λ (x : Shown). cut ++ record { collection = c; shard = shard; snapshot = x } ∷ []) e in
+    subst (λ x. Stands old mid look (ends x) 0) (sym same)
+    (looks_from old mid cell (λ log. ends (cut ++ part_of c shard (history_in log) ∷ [])) lt l)
+
+-- what was done at a cell is the course's look at its shard
+pub part_here : (old new : Writer) (l m : Layout) (c : ByteList) (s cell : ℕ)
+    (cut : List CutPart) (r : Result (List CutPart) SiteFault) → m ≡ l → cell ≡ cell_of m.names c s
+    → Completed old new (looks cell (λ log. ends (cut ++ part_of c s (history_in log) ∷ []))) r
+    → Completed old new
+    (looks (cell_of l.names c s) (λ log. ends (cut ++ part_of c s (history_in log) ∷ []))) r
+part_here old new l m c s cell cut r e f p =
+    let p' = subst (λ x. Completed old new
+    (looks x (λ log. ends (cut ++ part_of c s (history_in log) ∷ []))) r) f p in
+    subst (λ (x : Layout). Completed old new
+    (looks (cell_of x.names c s) (λ log. ends (cut ++ part_of c s (history_in log) ∷ []))) r) e p'
+
+-- a collection's part, as the writer finds it now
+pub collection_here : (old new : Writer) (l m : Layout) (c : ByteList) (cut : List CutPart)
+    (r : Result (List CutPart) SiteFault) → m ≡ l
+    → Completed old new (cut_shards m.names c 0 (shards_of m.names c) cut) r
+    → Completed old new (cut_shards l.names c 0 (shards_of l.names c) cut) r
+collection_here old new l m c cut r e p =
+    subst (λ (x : Layout). Completed old new (cut_shards x.names c 0 (shards_of x.names c) cut) r)
+    e p
+
+-- the collections from one on
+pub next_collection : (old new : Writer) (p : Course (List CutPart)) (names : List NameShards)
+    (cut : List CutPart) (collections : List ByteList) (i : ℕ) (c : ByteList)
+    → i < length collections → c ≡ get_or collections i c
+    → Stands old new p (cut_course names cut (drop i collections)) 0
+    → Stands old new p (cut_course names cut (c ∷ drop (i + 1) collections)) 0
+next_collection old new p names cut collections i c lt e s =
+    subst (λ x. Stands old new p (cut_course names cut x) 0) (from_item collections i c lt e) s
+
+-- none is left
+pub no_collection : (old new : Writer) (p : Course (List CutPart)) (names : List NameShards)
+    (cut : List CutPart) (collections : List ByteList) (i : ℕ) → length collections ≤ i
+    → Stands old new p (cut_course names cut (drop i collections)) 0 → Stands old new p (ends cut) 0
+no_collection old new p names cut collections i le s =
+    subst (λ x. Stands old new p (cut_course names cut x) 0) (drop_all i collections le) s

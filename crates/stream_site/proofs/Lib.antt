@@ -1,0 +1,11 @@
+pub mod PlaceLemmas
+pub mod ShareLemmas
+pub mod TestLemmas
+pub mod CloseLemmas
+pub mod IndexLemmas
+pub mod TakenLemmas
+pub mod UpdateLemmas
+pub mod CutLemmas
+pub mod EmptyLemmas
+pub mod PlainLemmas
+pub mod WriteLemmas

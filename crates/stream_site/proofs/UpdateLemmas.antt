@@ -1,0 +1,188 @@
+-- An update is its writes, and then what a commit does.
+use Rattle.std.proofs.Common.{◌≡◌, ℕ, ◌+◌, ◌^◌, ◌<◌, Bool, true, false, List, [], ◌∷◌, length, get_or, sym, ap, ◌∙◌, subst, arith, if◌then◌else◌}
+use Rattle.std.specs.Prelude.{Result, Ok, Err}
+use Rattle.std.specs.List.{AllByRecursion}
+use Rattle.tuple_values.specs.Document.{ByteList}
+use Rattle.tuple_values.specs.declared.write.Write.{Write}
+use Rattle.shard_versions.specs.Fitness.{AreStorable, is_storable_kind, is_routed}
+use Rattle.shard_versions.specs.declared.entry.Entry.{Entry}
+use Rattle.shard_versions.specs.declared.entry.Kind.{Kind}
+use Rattle.topic_book.specs.Cells.{cell_of}
+use Rattle.topic_book.specs.Fitness.{shards_of}
+use Rattle.exchange_rules.specs.Courses.{ends, and_ok}
+use Rattle.exchange_rules.specs.Following.{Writer}
+use Rattle.exchange_rules.specs.Calls.{Stands, Refused, Passed, Answered}
+use Rattle.exchange_rules.specs.Rows.{Layout, length_below, write_at, writes_course, settle_at, settle_all, finish_course, shares_of, index_course}
+use Rattle.exchange_rules.specs.Steps.{AreStorableWrites, closed, entries_by, kind_of, kinds_of, routed, settle_unless, write_course, writes_in}
+use Rattle.exchange_rules.specs.declared.fault.SiteFault.{SiteFault}
+use Rattle.exchange_rules.specs.declared.fault.SiteFault.TheVariants.{ShardFull}
+use Rattle.exchange_rules.proofs.RoutingLemmas.{length_below-same, length_below-routed, writes_in-routed}
+use Rattle.exchange_rules.proofs.ShardLemmas.{each_same}
+use Rattle.exchange_rules.proofs.StandLemmas.{stands_ok, stands_join, refused_then, refused_on}
+use Rattle.exchange_rules.proofs.StepLemmas.{kinds_of-entries_by, entries_by_are}
+use Rattle.stream_site.specs.Shares.{AreShares, AreCounts, AreSteps, share_in}
+
+-- one more kind that can be kept, by a test
+keep_all : (b : Bool) (k : Kind) (ks : List Kind) → is_storable_kind k ≡ true
+    → AllByRecursion (λ x. is_storable_kind x ≡ true) ks
+    → AllByRecursion (λ x. is_storable_kind x ≡ true) (if b then k ∷ ks else ks)
+keep_all true k ks e a = (e, a)
+keep_all false k ks e a = a
+
+-- what routes to a shard can be kept
+routed_storable : (n s : ℕ) (ws : List Write) → AreStorableWrites ws
+    → AllByRecursion (λ k. is_storable_kind k ≡ true) (routed n s ws)
+routed_storable n s [] a = tt
+routed_storable n s (w ∷ ws) a =
+    keep_all (is_routed n s (kind_of w)) (kind_of w) (routed n s ws) a.0
+    (routed_storable n s ws a.1)
+
+-- entries can be kept where their kinds can
+entries_storable : (me : ℕ) (ks : List Kind)
+    → AllByRecursion (λ k. is_storable_kind k ≡ true) ks → AreStorable (entries_by me ks)
+unfolding AreStorable
+entries_storable me [] a = tt
+entries_storable me (k ∷ ks) a = (a.0, entries_storable me ks a.1)
+
+-- what is to be appended at a shard are the writes that route there
+pub share_same : (me n : ℕ) (ws : List Write) (steps : List (List Entry)) → AreShares me n ws steps
+    → (s : ℕ) → s < n → share_in steps s ≡ routed n s ws
+share_same me n ws steps a s lt =
+    ap kinds_of (a.shares s lt) ∙ kinds_of-entries_by me (routed n s ws)
+
+-- the steps of an update can be appended
+pub shares_steps : (me n : ℕ) (ws : List Write) (steps : List (List Entry))
+    → AreShares me n ws steps → AreStorableWrites ws → 0 < n → length ws < 2 ^ 64
+    → AreSteps me n steps
+shares_steps me n ws steps a storable some few =
+    let all = length_below-same (share_in steps) (λ s. routed n s ws) n
+    (share_same me n ws steps a) in
+    let whole = length_below-routed n ws some in
+    record {
+      counted = a.counted;
+      own = λ s lt. subst (λ (es : List Entry). AllByRecursion (λ e. e.by ≡ me) es)
+          (sym (a.shares s lt)) (entries_by_are me (routed n s ws));
+      storable = λ s lt. subst AreStorable (sym (a.shares s lt))
+          (entries_storable me (routed n s ws) (routed_storable n s ws storable));
+      writes = λ s lt.
+          let e = share_same me n ws steps a s lt in
+          ap writes_in e ∙ (writes_in-routed n s ws ∙ sym (ap length e));
+      few = omega (arith, all, whole, few);
+    }
+
+-- an update of the same shares
+writes_same : (l : Layout) (c : ByteList) (a b : ℕ → List Kind) (commit : Bool)
+    → ((s : ℕ) → s < shards_of l.names c → a s ≡ b s)
+    → writes_course l c a commit ≡ writes_course l c b commit
+writes_same l c a b commit e =
+    each_same (write_at l c a commit) (write_at l c b commit) 0 (shards_of l.names c) (λ s lt.
+    let within : s < shards_of l.names c = omega arith in
+    let below = length_below-same a b s (λ x less. e x (omega arith)) in
+    ap (λ ks. write_course l.limit (cell_of l.names c s) (closed commit ks)
+    (ShardFull c s (length_below a s))) (e s within)
+    ∙ ap (λ n. write_course l.limit (cell_of l.names c s) (closed commit (b s)) (ShardFull c s n))
+    below)
+
+-- a commit after as many writes
+settle_same : (l : Layout) (c : ByteList) (a b : ℕ → ℕ) (stand : ℕ)
+    → ((s : ℕ) → s < shards_of l.names c → a s ≡ b s)
+    → settle_all l c a stand ≡ settle_all l c b stand
+settle_same l c a b stand e =
+    each_same (settle_at l c a stand) (settle_at l c b stand) 0 (shards_of l.names c) (λ s lt.
+    ap (λ n. settle_unless l.limit (cell_of l.names c s) n (ShardFull c s stand))
+    (e s (omega arith)))
+
+-- the writes were appended as the row says, or one was refused
+pub writes_passed : (old new : Writer) (l : Layout) (c : ByteList) (me n : ℕ) (ws : List Write)
+    (steps : List (List Entry)) (commit : Bool) (r : Result (Unit {0}) SiteFault)
+    → n ≡ shards_of l.names c → AreShares me n ws steps → 0 < n
+    → Passed 0 old new (writes_course l c (share_in steps) commit)
+    (length_below (share_in steps) (shards_of l.names c)) r
+    → Passed 0 old new (writes_course l c (shares_of l c ws) commit) (length ws) r
+writes_passed old new l c me n ws steps commit r e a some p =
+    let a' = subst (λ k. AreShares me k ws steps) e a in
+    let k = shards_of l.names c in
+    let same = share_same me k ws steps a' in
+    let some' : 0 < k = subst (λ x. 0 < x) e some in
+    let all = length_below-same (share_in steps) (shares_of l c ws) k same
+    ∙ length_below-routed k ws some' in
+    subst (λ x. Passed 0 old new (writes_course l c (shares_of l c ws) commit) x r) all
+    (subst (λ x. Passed 0 old new x (length_below (share_in steps) k) r)
+    (writes_same l c (share_in steps) (shares_of l c ws) commit same) p)
+
+-- the other shards were settled as the row says, or one was refused
+pub settled_passed : (old new : Writer) (l m : Layout) (c : ByteList) (n total : ℕ)
+    (ws : List Write) (counts : List ℕ) (r : Result (Unit {0}) SiteFault) → m ≡ l
+    → n ≡ shards_of l.names c → total ≡ length ws → AreCounts n ws counts
+    → Passed total old new (settle_all m c (λ s. get_or counts s 0) total) 0 r
+    → Passed (length ws) old new (finish_course l c (shares_of l c ws) (length ws) true) 0 r
+settled_passed old new l m c n total ws counts r e f t a p =
+    let a' = subst (λ k. AreCounts k ws counts) f a in
+    let p' = subst (λ (x : Layout). Passed total old new
+    (settle_all x c (λ s. get_or counts s 0) total) 0 r) e p in
+    let p'' = subst (λ x. Passed x old new (settle_all l c (λ s. get_or counts s 0) x) 0 r) t p' in
+    subst (λ x. Passed (length ws) old new x 0 r)
+    (settle_same l c (λ s. get_or counts s 0) (λ s. length (shares_of l c ws s)) (length ws) a') p''
+
+-- an update without a commit
+pub index_plain : (old new : Writer) (l : Layout) (c : ByteList) (ws : List Write)
+    (commit : Bool) (total : ℕ) → commit ≡ false → total ≡ length ws
+    → Passed 0 old new (writes_course l c (shares_of l c ws) commit) (length ws) (Ok tt)
+    → Answered old new (index_course l c ws commit) (Ok total)
+index_plain old new l c ws commit total e t p =
+    let share = shares_of l c ws in
+    let done = stands_ok old new (writes_course l c share commit) tt
+    (λ _. and_ok (finish_course l c share (length ws) commit) (λ _. ends (Ok (length ws))))
+    (length ws) p in
+    let done' = subst (λ b. Stands old new (index_course l c ws commit)
+    (and_ok (finish_course l c share (length ws) b) (λ _. ends (Ok (length ws)))) (length ws))
+    e done in
+    subst (λ n. Answered old new (index_course l c ws commit) (Ok n)) (sym t) done'.reached
+
+-- one with a commit
+pub index_committed : (old mid new : Writer) (l : Layout) (c : ByteList) (ws : List Write)
+    (commit : Bool) (total : ℕ) → commit ≡ true → total ≡ length ws
+    → Passed 0 old mid (writes_course l c (shares_of l c ws) commit) (length ws) (Ok tt)
+    → Passed (length ws) mid new (finish_course l c (shares_of l c ws) (length ws) true) 0 (Ok tt)
+    → Answered old new (index_course l c ws commit) (Ok total)
+index_committed old mid new l c ws commit total e t p q =
+    let share = shares_of l c ws in
+    let finish = λ (b : Bool). and_ok (finish_course l c share (length ws) b)
+    (λ _. ends (Ok (length ws))) in
+    let done = stands_ok old mid (writes_course l c share commit) tt (λ _. finish commit)
+    (length ws) p in
+    let done' = subst (λ b. Stands old mid (index_course l c ws commit) (finish b) (length ws)) e
+    done in
+    let rest = stands_ok mid new (finish_course l c share (length ws) true) tt
+    (λ _. ends (Ok (length ws))) 0 q in
+    let all = stands_join old mid new (index_course l c ws commit) (finish true)
+    (ends (Ok (length ws))) (length ws) 0 done' rest in
+    subst (λ n. Answered old new (index_course l c ws commit) (Ok n)) (sym t) all.reached
+
+-- a refusal among the writes
+pub index_refused : (old new : Writer) (l : Layout) (c : ByteList) (ws : List Write)
+    (commit : Bool) (fault : SiteFault)
+    → Passed 0 old new (writes_course l c (shares_of l c ws) commit) (length ws) (Err fault)
+    → Refused 0 old new (index_course l c ws commit) fault
+index_refused old new l c ws commit fault p =
+    refused_then 0 old new (writes_course l c (shares_of l c ws) commit) _ fault p
+
+-- or among the Marks after them
+pub settle_refused : (old mid new : Writer) (l : Layout) (c : ByteList) (ws : List Write)
+    (commit : Bool) (fault : SiteFault) → commit ≡ true
+    → Passed 0 old mid (writes_course l c (shares_of l c ws) commit) (length ws) (Ok tt)
+    → Passed (length ws) mid new (finish_course l c (shares_of l c ws) (length ws) true) 0
+    (Err fault) → Refused 0 old new (index_course l c ws commit) fault
+settle_refused old mid new l c ws commit fault e p q =
+    let share = shares_of l c ws in
+    let finish = λ (b : Bool). and_ok (finish_course l c share (length ws) b)
+    (λ _. ends (Ok (length ws))) in
+    let done = stands_ok old mid (writes_course l c share commit) tt (λ _. finish commit)
+    (length ws) p in
+    let done' = subst (λ b. Stands old mid (index_course l c ws commit) (finish b) (length ws)) e
+    done in
+    let n : length ws ≡ 0 + length ws = omega arith in
+    refused_on 0 old mid new (index_course l c ws commit) (finish true) (length ws) fault done'
+    (subst (λ x. Refused x mid new (finish true) fault) n
+    (refused_then (length ws) mid new (finish_course l c share (length ws) true)
+    (λ _. ends (Ok (length ws))) fault q))

@@ -1,0 +1,154 @@
+use Rattle.std.proofs.Common.{◌≡◌, ◌<◌, ◌≤◌, ◌+◌, ◌-◌, refl, ap, ◌∙◌, subst, arith}
+use Rattle.std.specs.Prelude.{Ok, Err}
+use Rattle.topic_book.specs.Fitness.{shards_of}
+use Rattle.exchange_rules.specs.Calls.{Stands}
+use Rattle.exchange_rules.specs.Courses.{ends}
+use Rattle.exchange_rules.specs.Rows.{each_shard, write_at, length_below}
+use Rattle.exchange_rules.specs.Steps.{kinds_of, writes_in}
+use Rattle.exchange_rules.proofs.ShardLemmas.{each_stands, each_end, all_left}
+use Rattle.exchange_rules.proofs.StandLemmas.{stands_none}
+use Rattle.stream_site.specs.Shares.{share_in}
+use Rattle.stream_site.proofs.IndexLemmas.{write_here, write_refused, here_below}
+use Rattle.stream_site.proofs.TakenLemmas.{taken, rest_after, long_after}
+use Rattle.stream_site.proofs.index.write_all_over.Goals as goal
+
+pub loop-shard-init : goal.loop-shard-init
+loop-shard-init g c =
+    let l = g.T.Turns.layout c.args.site.now in
+    let w = g.T.Turns.writer c.args.site.now in
+    let at = write_at l c.args.collection.now (share_in c.args.steps.now.items) c.args.commit in
+    let n = shards_of l.names c.args.collection.now in
+    record {
+      same = refl;
+      long = refl;
+      rest = λ s le. refl;
+      counted = refl;
+      reached = subst (λ k. Stands w w (each_shard at 0 n) (each_shard at 0 k) 0) (all_left n)
+          (stands_none w (each_shard at 0 n));
+    }
+
+pub take_step-step-requires : goal.take_step-step-requires
+take_step-step-requires g c =
+    let n = c.width-shard-end.ensures in
+    omega (arith, c.loop-shard.invariant.long, c.requires.counted, n, c.loop-shard-test.true)
+
+pub locate-cell-requires : goal.locate-cell-requires
+locate-cell-requires g c =
+    here_below (g.T.Turns.layout c.args.site.now) (g.T.Turns.layout c.loop-shard.site)
+    c.args.collection.now c.loop-shard.shard c.width-shard-end.result c.loop-shard.invariant.same
+    c.width-shard-end.ensures c.loop-shard-test.true
+
+pub write_over-requires-clause-own : goal.write_over-requires-clause-own
+write_over-requires-clause-own g c =
+    (taken (g.T.Turns.writer c.args.site.now).me (g.T.Turns.writer c.loop-shard.site).me
+    (shards_of (g.T.Turns.layout c.args.site.now).names c.args.collection.now) c.loop-shard.shard
+    c.args.steps.now.items c.loop-shard.steps.items c.take_step-step.result c.loop-shard.stand
+    c.len-count.result c.requires c.loop-shard.invariant.reached.reached.same
+    (subst (λ n. c.loop-shard.shard < n) c.width-shard-end.ensures c.loop-shard-test.true)
+    c.take_step-step.ensures.step c.loop-shard.invariant.rest c.loop-shard.invariant.counted
+    c.len-count.ensures).own
+
+pub write_over-requires-clause-storable : goal.write_over-requires-clause-storable
+write_over-requires-clause-storable g c =
+    (taken (g.T.Turns.writer c.args.site.now).me (g.T.Turns.writer c.loop-shard.site).me
+    (shards_of (g.T.Turns.layout c.args.site.now).names c.args.collection.now) c.loop-shard.shard
+    c.args.steps.now.items c.loop-shard.steps.items c.take_step-step.result c.loop-shard.stand
+    c.len-count.result c.requires c.loop-shard.invariant.reached.reached.same
+    (subst (λ n. c.loop-shard.shard < n) c.width-shard-end.ensures c.loop-shard-test.true)
+    c.take_step-step.ensures.step c.loop-shard.invariant.rest c.loop-shard.invariant.counted
+    c.len-count.ensures).storable
+
+pub returns-in-Err-clause-course : goal.returns-in-Err-clause-course
+returns-in-Err-clause-course g c =
+    let l = g.T.Turns.layout c.args.site.now in
+    let share = share_in c.args.steps.now.items in
+    let at = write_at l c.args.collection.now share c.args.commit in
+    let n = shards_of l.names c.args.collection.now in
+    let lt = subst (λ n. c.loop-shard.shard < n) c.width-shard-end.ensures c.loop-shard-test.true in
+    let t = taken (g.T.Turns.writer c.args.site.now).me (g.T.Turns.writer c.loop-shard.site).me n
+    c.loop-shard.shard c.args.steps.now.items c.loop-shard.steps.items
+    c.take_step-step.result c.loop-shard.stand c.len-count.result c.requires
+    c.loop-shard.invariant.reached.reached.same lt c.take_step-step.ensures.step
+    c.loop-shard.invariant.rest c.loop-shard.invariant.counted c.len-count.ensures in
+    write_refused (g.T.Turns.writer c.args.site.now) (g.T.Turns.writer c.loop-shard.site)
+    (g.T.Turns.writer c.write_over.new.site) l c.args.collection.now share c.args.commit
+    c.loop-shard.stand c.loop-shard.shard n c.in-Err.fault lt c.loop-shard.invariant.reached
+    (write_here c.loop-shard.stand (g.T.Turns.writer c.loop-shard.site)
+    (g.T.Turns.writer c.write_over.new.site) l (g.T.Turns.layout c.loop-shard.site)
+    c.args.collection.now share c.args.commit c.loop-shard.stand c.loop-shard.shard
+    c.locate-cell.result (writes_in (kinds_of c.take_step-step.result))
+    (kinds_of c.take_step-step.result) (Err c.in-Err.fault) c.loop-shard.invariant.same
+    c.locate-cell.ensures.cell t.kinds c.loop-shard.invariant.counted c.in-Err.ensures.course)
+
+pub returns-in-Err-clause-layout : goal.returns-in-Err-clause-layout
+returns-in-Err-clause-layout g c = c.in-Err.ensures.layout ∙ c.loop-shard.invariant.same
+
+pub overflow_add-stand : goal.overflow_add-stand
+overflow_add-stand g c =
+    let l = g.T.Turns.layout c.args.site.now in
+    let n = shards_of l.names c.args.collection.now in
+    let lt = subst (λ n. c.loop-shard.shard < n) c.width-shard-end.ensures c.loop-shard-test.true in
+    let t = taken (g.T.Turns.writer c.args.site.now).me (g.T.Turns.writer c.loop-shard.site).me n
+    c.loop-shard.shard c.args.steps.now.items c.loop-shard.steps.items
+    c.take_step-step.result c.loop-shard.stand c.len-count.result c.requires
+    c.loop-shard.invariant.reached.reached.same lt c.take_step-step.ensures.step
+    c.loop-shard.invariant.rest c.loop-shard.invariant.counted c.len-count.ensures in
+    let fits = t.fits in
+    omega (arith, fits)
+
+pub loop-shard-preserved : goal.loop-shard-preserved
+loop-shard-preserved g c =
+    let l = g.T.Turns.layout c.args.site.now in
+    let share = share_in c.args.steps.now.items in
+    let at = write_at l c.args.collection.now share c.args.commit in
+    let n = shards_of l.names c.args.collection.now in
+    let lt = subst (λ n. c.loop-shard.shard < n) c.width-shard-end.ensures c.loop-shard-test.true in
+    let t = taken (g.T.Turns.writer c.args.site.now).me (g.T.Turns.writer c.loop-shard.site).me n
+    c.loop-shard.shard c.args.steps.now.items c.loop-shard.steps.items
+    c.take_step-step.result c.loop-shard.stand c.len-count.result c.requires
+    c.loop-shard.invariant.reached.reached.same lt c.take_step-step.ensures.step
+    c.loop-shard.invariant.rest c.loop-shard.invariant.counted c.len-count.ensures in
+    let mid = g.T.Turns.writer c.loop-shard.site in
+    let new = g.T.Turns.writer c.write_over.new.site in
+    let done = write_here 0 mid new l (g.T.Turns.layout c.loop-shard.site) c.args.collection.now
+    share c.args.commit c.loop-shard.stand c.loop-shard.shard c.locate-cell.result
+    (writes_in (kinds_of c.take_step-step.result)) (kinds_of c.take_step-step.result) (Ok tt)
+    c.loop-shard.invariant.same c.locate-cell.ensures.cell t.kinds
+    c.loop-shard.invariant.counted c.in-Ok.ensures.course in
+    record {
+      same = c.in-Ok.ensures.layout ∙ c.loop-shard.invariant.same;
+      long = long_after c.args.steps.now.items c.loop-shard.steps.items
+          c.take_step-step.new.steps.items c.loop-shard.shard c.loop-shard.invariant.long
+          c.take_step-step.ensures.rest;
+      rest = rest_after c.args.steps.now.items c.loop-shard.steps.items
+          c.take_step-step.new.steps.items c.loop-shard.shard c.loop-shard.invariant.rest
+          c.take_step-step.ensures.rest;
+      counted = t.next;
+      reached = subst (λ k. Stands (g.T.Turns.writer c.args.site.now) new (each_shard at 0 n)
+          (each_shard at (c.loop-shard.shard + 1) (n - (c.loop-shard.shard + 1)))
+          (c.loop-shard.stand + k)) t.writes
+          (each_stands (g.T.Turns.writer c.args.site.now) mid new (each_shard at 0 n) at n
+          c.loop-shard.shard c.loop-shard.stand (writes_in (kinds_of c.take_step-step.result)) tt
+          lt c.loop-shard.invariant.reached done);
+    }
+
+pub returns-clause-course : goal.returns-clause-course
+returns-clause-course g c =
+    let l = g.T.Turns.layout c.args.site.now in
+    let share = share_in c.args.steps.now.items in
+    let at = write_at l c.args.collection.now share c.args.commit in
+    let n = shards_of l.names c.args.collection.now in
+    let w = g.T.Turns.writer c.args.site.now in
+    let now = g.T.Turns.writer c.loop-shard.site in
+    let over = subst (λ k. k ≤ c.loop-shard.shard) c.width-shard-end.ensures
+    c.loop-shard-test.false in
+    let within = subst (λ k. c.loop-shard.shard ≤ k) c.width-shard-end.ensures
+    c.loop-shard.auto.shard-end in
+    let last : c.loop-shard.shard ≡ n = omega (arith, over, within) in
+    subst (λ k. Stands w now (each_shard at 0 n) (ends (Ok tt)) k)
+    (c.loop-shard.invariant.counted ∙ ap (length_below share) last)
+    (each_end w now (each_shard at 0 n) at n c.loop-shard.shard c.loop-shard.stand over
+    c.loop-shard.invariant.reached)
+
+pub returns-clause-layout : goal.returns-clause-layout
+returns-clause-layout g c = c.loop-shard.invariant.same

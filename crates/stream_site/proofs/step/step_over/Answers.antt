@@ -1,0 +1,26 @@
+use Rattle.std.proofs.Common.{[], get_or, subst}
+use Rattle.exchange_rules.specs.Calls.{Passed}
+use Rattle.exchange_rules.specs.Cells.{history_in}
+use Rattle.exchange_rules.specs.Rows.{Layout}
+use Rattle.exchange_rules.specs.Steps.{fitting, kinds_of, writes_in}
+use Rattle.exchange_rules.specs.declared.fault.SiteFault.TheVariants.{ShardFull}
+use Rattle.exchange_rules.proofs.StepLemmas.{look_passed, nothing_done}
+use Rattle.stream_site.proofs.step.step_over.Goals as goal
+
+pub returns-in-Ok-clause-course : goal.returns-in-Ok-clause-course
+returns-in-Ok-clause-course g c =
+    let mid = g.T.Turns.writer c.look.new.self in
+    let new = g.T.Turns.writer c.append_over.new.site in
+    look_passed c.args.stand (g.T.Turns.writer c.args.site.now) mid new c.args.cell _ _
+    c.append_over.result c.requires.in_range.seen c.in-Ok.ensures.ok
+    (subst (λ (l : Layout). Passed c.args.stand mid new
+    (fitting l.limit c.args.cell (kinds_of c.args.step)
+    (ShardFull c.args.collection.now c.args.shard c.args.stand)
+    (history_in (get_or mid.seen c.args.cell [])))
+    (writes_in (kinds_of c.args.step)) c.append_over.result) c.in-Ok.ensures.layout
+    c.append_over.ensures.course)
+
+pub returns-in-Err-clause-course : goal.returns-in-Err-clause-course
+returns-in-Err-clause-course g c =
+    nothing_done c.args.stand (g.T.Turns.writer c.args.site.now)
+    (g.T.Turns.writer c.look.new.self) _ c.in-Err.ensures.err

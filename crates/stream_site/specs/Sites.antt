@@ -1,0 +1,28 @@
+-- When what a site of one writer keeps is right.
+use Rattle.std.specs.Prelude.{◌^◌, ◌≡◌, ◌<◌, length, map}
+use Rattle.std.specs.List.{AllByRecursion}
+use Rattle.shard_versions.specs.Shards.{Shard}
+use Rattle.topic_book.specs.Cells.{cells_in}
+use Rattle.exchange_rules.specs.Steps.{AreBy}
+use Rattle.stream_site.specs.Plains.{Plain}
+use Rattle.stream_site.specs.declared.plain.PlainSite.TheInside.{Inside}
+
+-- what is seen of the fields
+abbrev pub plain_in : Inside → Plain
+plain_in s = record {
+  names = s.names;
+  limit = s.limit;
+  shards = map (λ (x : Shard). x.entries) s.shards.items;
+  marks = s.marks.items;
+  own = s.own.items;
+  looks = s.looks.items;
+}
+
+-- there is a shard for each cell, with the site's limit and the one writer's entries alone, and a
+-- count of looks for each
+pub record IsSite (s : Inside) : Type 0 where
+  pub counted : length s.shards.items ≡ cells_in s.names
+  pub few : cells_in s.names < 2 ^ 32
+  pub limits : AllByRecursion (λ (x : Shard). x.limit ≡ s.limit) s.shards.items
+  pub own : AllByRecursion (λ (x : Shard). AreBy 1 x.entries) s.shards.items
+  pub looks : length s.looks.items ≡ length s.shards.items

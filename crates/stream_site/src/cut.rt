@@ -1,0 +1,108 @@
+// Cuts: shards as they are read, one after another.
+ghost use Rattle.std.specs.Prelude.{◌≡◌, ◌++◌, ◌∷◌, [], IfOk};
+ghost use Rattle.topic_book.specs.Fitness.{shards_of};
+ghost use Rattle.exchange_rules.specs.Calls.{Completed};
+ghost use Rattle.exchange_rules.specs.Cells.{history_in};
+ghost use Rattle.exchange_rules.specs.Courses.{ends, looks};
+ghost use Rattle.exchange_rules.specs.Rows.{HasCell, cut_course, cut_shards, part_of};
+
+use crate::place::{locate, width};
+use crate::{SiteFault, Turns};
+use shard_versions::{Cut, CutPart, Snapshot};
+use std::alloc::Global;
+use tuple_values::{FieldList, Memory, Text, TryCopy};
+
+/// The cut with a part behind it.
+fn with_part(
+    alloc: Global,
+    mut cut: Cut,
+    collection: &Text,
+    shard: u16,
+    snapshot: Snapshot,
+) -> Result<Cut, Memory>
+    ensures { IfOk result (λ parts. parts ≡ cut ++ record {
+      collection = collection.now;
+      shard = shard;
+      snapshot = snapshot;
+    } ∷ []) }
+{
+    let collection = collection.copy(alloc)?;
+    cut.push(CutPart {
+        collection,
+        shard,
+        snapshot,
+    })?;
+    Ok(cut)
+}
+
+/// One look at the collection's shard, whose part follows the cut.
+fn look_part_over<T: Turns>(
+    site: &mut T,
+    alloc: Global,
+    collection: &Text,
+    shard: u16,
+    cell: u32,
+    cut: Cut,
+) -> Result<Cut, SiteFault>
+    requires { HasCell (T.layout site.old) (T.writer site.old) cell }
+    ensures course { Completed (T.writer site.old) (T.writer site.new)
+        (looks cell (λ log. ends (cut ++ part_of collection.now shard (history_in log) ∷ [])))
+        result }
+    ensures layout { T.layout site.new ≡ T.layout site.old }
+{
+    match site.look(cell) {
+        Ok(()) => {}
+        Err(_) => return Err(SiteFault::OutOfMemory { stand: 0 }),
+    }
+    let snapshot = match site.snapshot(alloc, cell) {
+        Ok(snapshot) => snapshot,
+        Err(_) => return Err(SiteFault::OutOfMemory { stand: 0 }),
+    };
+    match with_part(alloc, cut, collection, shard, snapshot) {
+        Ok(cut) => Ok(cut),
+        Err(_) => Err(SiteFault::OutOfMemory { stand: 0 }),
+    }
+}
+
+/// One look at each shard of the collection, whose parts follow the cut.
+fn cut_collection_over<T: Turns>(
+    site: &mut T,
+    alloc: Global,
+    collection: &Text,
+    cut: Cut,
+) -> Result<Cut, SiteFault>
+    ensures course { Completed (T.writer site.old) (T.writer site.new)
+        (cut_shards (T.layout site.old).names collection.now 0
+        (shards_of (T.layout site.old).names collection.now) cut) result }
+    ensures layout { T.layout site.new ≡ T.layout site.old }
+{
+    let mut cut = cut;
+    for shard in 0..width(site, collection) {
+        let cell = locate(site, collection, shard);
+        cut = match look_part_over(site, alloc, collection, shard, cell, cut) {
+            Ok(cut) => cut,
+            Err(fault) => return Err(fault),
+        };
+    }
+    Ok(cut)
+}
+
+/// One look at each shard of the collections, in their order and then by shard.
+pub fn take_cut_over<T: Turns>(
+    site: &mut T,
+    alloc: Global,
+    collections: &FieldList,
+) -> Result<Cut, SiteFault>
+    ensures course { Completed (T.writer site.old) (T.writer site.new)
+        (cut_course (T.layout site.old).names [] collections.now) result }
+    ensures layout { T.layout site.new ≡ T.layout site.old }
+{
+    let mut cut = Cut::new(alloc);
+    for collection in collections.as_slice() {
+        cut = match cut_collection_over(site, alloc, collection, cut) {
+            Ok(cut) => cut,
+            Err(fault) => return Err(fault),
+        };
+    }
+    Ok(cut)
+}

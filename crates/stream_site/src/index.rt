@@ -1,0 +1,130 @@
+// Updates and commits.
+ghost use Rattle.std.specs.Prelude.{◌≡◌, ◌<◌, ℕ, [], get_or, length};
+ghost use Rattle.topic_book.specs.Fitness.{shards_of};
+ghost use Rattle.exchange_rules.specs.Calls.{Answered, Passed};
+ghost use Rattle.exchange_rules.specs.Rows.{commit_course, index_course, length_below, settle_all, writes_course};
+ghost use Rattle.exchange_rules.specs.Steps.{AreStorableWrites};
+ghost use Rattle.stream_site.specs.Shares.{AreSteps, share_in};
+
+use crate::place::{locate, width};
+use crate::routing::{counts_of, route, take_step};
+use crate::step::{settle_shard_over, write_over};
+use crate::{SiteFault, Turns};
+use shard_versions::Step;
+use std::alloc::Global;
+use tuple_values::{Text, Writes};
+
+/// The count at this place, and 0 where there is none.
+fn count_at(counts: &[usize], place: u16) -> usize
+    ensures { result ≡ get_or counts.now place 0 }
+{
+    match counts.get(place as usize) {
+        Some(count) => *count,
+        None => 0,
+    }
+}
+
+/// Settles each shard of the collection, but for those to which writes went.
+fn settle_all_over<T: Turns>(
+    site: &mut T,
+    alloc: Global,
+    collection: &Text,
+    counts: &[usize],
+    stand: u64,
+) -> Result<(), SiteFault>
+    ensures course { Passed stand (T.writer site.old) (T.writer site.new)
+        (settle_all (T.layout site.old) collection.now (λ shard. get_or counts.now shard 0) stand)
+        0 result }
+    ensures layout { T.layout site.new ≡ T.layout site.old }
+{
+    for shard in 0..width(site, collection) {
+        let writes = count_at(counts, shard);
+        let cell = locate(site, collection, shard);
+        match settle_shard_over(site, alloc, collection, shard, cell, writes, stand) {
+            Ok(()) => {}
+            Err(fault) => return Err(fault),
+        }
+    }
+    Ok(())
+}
+
+/// Appends each step at its shard of the collection, and leaves an empty one in its place.
+fn write_all_over<T: Turns>(
+    site: &mut T,
+    alloc: Global,
+    collection: &Text,
+    steps: &mut Vec<Step>,
+    commit: bool,
+) -> Result<(), SiteFault>
+    requires { AreSteps (T.writer site.old).me
+        (shards_of (T.layout site.old).names collection.now) steps.old.items }
+    ensures course { Passed 0 (T.writer site.old) (T.writer site.new)
+        (writes_course (T.layout site.old) collection.now (share_in steps.old.items) commit)
+        (length_below (share_in steps.old.items)
+        (shards_of (T.layout site.old).names collection.now)) result }
+    ensures layout { T.layout site.new ≡ T.layout site.old }
+{
+    let mut stand: u64 = 0;
+    for shard in 0..width(site, collection) {
+        let step = take_step(alloc, steps, shard);
+        let count = step.len() as u64;
+        let cell = locate(site, collection, shard);
+        match write_over(site, alloc, collection, shard, cell, step, commit, stand) {
+            Ok(()) => {}
+            Err(fault) => return Err(fault),
+        }
+        stand += count;
+    }
+    Ok(())
+}
+
+/// The writes at the collection's shards, and with a commit a Mark on each shard where a write is
+/// pending. The answer is the number of writes.
+pub fn index_over<T: Turns>(
+    site: &mut T,
+    alloc: Global,
+    collection: &Text,
+    writes: Writes,
+    commit: bool,
+) -> Result<u64, SiteFault>
+    requires known { 0 < shards_of (T.layout site.old).names collection.now }
+    requires storable { AreStorableWrites writes }
+    ensures course { Answered (T.writer site.old) (T.writer site.new)
+        (index_course (T.layout site.old) collection.now writes commit) result }
+    ensures layout { T.layout site.new ≡ T.layout site.old }
+{
+    let total = writes.len() as u64;
+    let shards = width(site, collection);
+    let mut steps = match route(alloc, site.number(), shards, writes) {
+        Ok(steps) => steps,
+        Err(_) => return Err(SiteFault::OutOfMemory { stand: 0 }),
+    };
+    let counts = match counts_of(alloc, &steps) {
+        Ok(counts) => counts,
+        Err(_) => return Err(SiteFault::OutOfMemory { stand: 0 }),
+    };
+    match write_all_over(site, alloc, collection, &mut steps, commit) {
+        Ok(()) => {}
+        Err(fault) => return Err(fault),
+    }
+    if !commit {
+        return Ok(total);
+    }
+    match settle_all_over(site, alloc, collection, &counts, total) {
+        Ok(()) => Ok(total),
+        Err(fault) => Err(fault),
+    }
+}
+
+/// A Mark on each shard of the collection where a write is pending.
+pub fn commit_all_over<T: Turns>(
+    site: &mut T,
+    alloc: Global,
+    collection: &Text,
+) -> Result<(), SiteFault>
+    ensures course { Answered (T.writer site.old) (T.writer site.new)
+        (commit_course (T.layout site.old) collection.now) result }
+    ensures layout { T.layout site.new ≡ T.layout site.old }
+{
+    settle_all_over(site, alloc, collection, &[], 0)
+}

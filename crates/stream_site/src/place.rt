@@ -1,0 +1,52 @@
+// Where a collection's cells are.
+ghost use Rattle.std.specs.Prelude.{◌≡◌, ◌<◌, ◌^◌};
+ghost use Rattle.topic_book.specs.Cells.{cells_in, cell_of};
+ghost use Rattle.topic_book.specs.Fitness.{shards_of};
+ghost use Rattle.exchange_rules.specs.Rows.{HasCell};
+
+use crate::Turns;
+use tuple_values::{Names, Text};
+
+/// How many shards the collection has, and 0 where there is none of this name.
+pub(crate) fn shards_of(names: &Names, collection: &str) -> u16
+    ensures { result ≡ shards_of names.now collection.now }
+{
+    for entry in names.as_slice() {
+        if entry.name.as_str() == collection {
+            return entry.shards;
+        }
+    }
+    0
+}
+
+/// The cell of the collection's first shard.
+pub(crate) fn first_cell(names: &Names, collection: &str) -> u32
+    requires { cells_in names.now < 2 ^ 32 }
+    ensures { result ≡ cell_of names.now collection.now 0 }
+{
+    let mut cell: u32 = 0;
+    for entry in names.as_slice() {
+        if entry.name.as_str() == collection {
+            return cell;
+        }
+        cell += u32::from(entry.shards);
+    }
+    cell
+}
+
+/// How many shards the collection has, as a writer of the site finds it.
+pub(crate) fn width<T: Turns>(site: &T, collection: &Text) -> u16
+    ensures { result ≡ shards_of (T.layout site.now).names collection.now }
+{
+    shards_of(site.names(), collection.as_str())
+}
+
+/// The cell of the collection's shard, as a writer of the site finds it.
+pub(crate) fn locate<T: Turns>(site: &T, collection: &Text, shard: u16) -> u32
+    requires { shard < shards_of (T.layout site.now).names collection.now }
+    ensures cell { result ≡ cell_of (T.layout site.now).names collection.now shard }
+    ensures here { HasCell (T.layout site.now) (T.writer site.now) result }
+{
+    let first = first_cell(site.names(), collection.as_str());
+    first + u32::from(shard)
+}

@@ -1,0 +1,194 @@
+// One step at a shard.
+ghost use Rattle.std.specs.Prelude.{◌≡◌, ◌++◌, ◌∷◌, [], IfOk, get_or, if◌then◌else◌};
+ghost use Rattle.shard_versions.specs.Deliveries.{mark_by};
+ghost use Rattle.shard_versions.specs.Fitness.{AreStorable};
+ghost use Rattle.exchange_rules.specs.Calls.{Passed, Tells};
+ghost use Rattle.exchange_rules.specs.Cells.{history_in};
+ghost use Rattle.exchange_rules.specs.Rows.{HasCell};
+ghost use Rattle.exchange_rules.specs.Steps.{AreBy, closed, fitting, kinds_of, settle_course, settle_unless, settling, step_course, write_course, writes_in};
+
+use crate::{SiteFault, Turns};
+use shard_versions::{Entry, ShardFault, Step};
+use std::alloc::Global;
+use tuple_values::{Memory, Text, TryCopy};
+
+/// The refusal of a step at this shard, after so many writes.
+fn full_at(alloc: Global, collection: &Text, shard: u16, stand: u64) -> SiteFault
+    ensures { Tells (SiteFault.ShardFull collection.now shard stand) stand result }
+{
+    match collection.copy(alloc) {
+        Ok(collection) => SiteFault::ShardFull {
+            collection,
+            shard,
+            stand,
+        },
+        Err(_) => SiteFault::OutOfMemory { stand },
+    }
+}
+
+/// The step behind what was just seen of the cell, unless it doesn't fit.
+fn append_over<T: Turns>(
+    site: &mut T,
+    alloc: Global,
+    collection: &Text,
+    shard: u16,
+    cell: u32,
+    step: Step,
+    stand: u64,
+) -> Result<(), SiteFault>
+    requires in_range { HasCell (T.layout site.old) (T.writer site.old) cell }
+    requires own { AreBy (T.writer site.old).me step }
+    requires storable { AreStorable step }
+    ensures course { Passed stand (T.writer site.old) (T.writer site.new)
+        (fitting (T.layout site.old).limit cell (kinds_of step)
+        (SiteFault.ShardFull collection.now shard stand)
+        (history_in (get_or (T.writer site.old).seen cell [])))
+        (writes_in (kinds_of step)) result }
+    ensures layout { T.layout site.new ≡ T.layout site.old }
+{
+    match site.seal(cell, step) {
+        Ok(()) => Ok(()),
+        Err(ShardFault::ShardFull) => Err(full_at(alloc, collection, shard, stand)),
+        Err(ShardFault::OutOfMemory) => Err(SiteFault::OutOfMemory { stand }),
+    }
+}
+
+/// One look, and the step unless it doesn't fit.
+fn step_over<T: Turns>(
+    site: &mut T,
+    alloc: Global,
+    collection: &Text,
+    shard: u16,
+    cell: u32,
+    step: Step,
+    stand: u64,
+) -> Result<(), SiteFault>
+    requires in_range { HasCell (T.layout site.old) (T.writer site.old) cell }
+    requires own { AreBy (T.writer site.old).me step }
+    requires storable { AreStorable step }
+    ensures course { Passed stand (T.writer site.old) (T.writer site.new)
+        (step_course (T.layout site.old).limit cell (kinds_of step)
+        (SiteFault.ShardFull collection.now shard stand))
+        (writes_in (kinds_of step)) result }
+    ensures layout { T.layout site.new ≡ T.layout site.old }
+{
+    match site.look(cell) {
+        Ok(()) => append_over(site, alloc, collection, shard, cell, step, stand),
+        Err(_) => Err(SiteFault::OutOfMemory { stand }),
+    }
+}
+
+/// The writer's step with a Mark behind it, where there is a commit.
+fn close(mut step: Step, writer: u64, commit: bool) -> Result<Step, Memory>
+    ensures { IfOk result (λ s. s ≡ (if commit then step ++ mark_by writer ∷ [] else step)) }
+{
+    if commit {
+        step.push(Entry::mark(writer))?;
+    }
+    Ok(step)
+}
+
+/// The step, which ends with a Mark where there is a commit; nothing where there is no write.
+pub(crate) fn write_over<T: Turns>(
+    site: &mut T,
+    alloc: Global,
+    collection: &Text,
+    shard: u16,
+    cell: u32,
+    step: Step,
+    commit: bool,
+    stand: u64,
+) -> Result<(), SiteFault>
+    requires in_range { HasCell (T.layout site.old) (T.writer site.old) cell }
+    requires own { AreBy (T.writer site.old).me step }
+    requires storable { AreStorable step }
+    ensures course { Passed stand (T.writer site.old) (T.writer site.new)
+        (write_course (T.layout site.old).limit cell (closed commit (kinds_of step))
+        (SiteFault.ShardFull collection.now shard stand))
+        (writes_in (kinds_of step)) result }
+    ensures layout { T.layout site.new ≡ T.layout site.old }
+{
+    if step.len() == 0 {
+        return Ok(());
+    }
+    match close(step, site.number(), commit) {
+        Ok(step) => step_over(site, alloc, collection, shard, cell, step, stand),
+        Err(_) => Err(SiteFault::OutOfMemory { stand }),
+    }
+}
+
+/// The step of one Mark.
+fn mark_step(alloc: Global, writer: u64) -> Result<Step, Memory>
+    ensures { IfOk result (λ s. s ≡ mark_by writer ∷ []) }
+{
+    let mut step = Step::new(alloc);
+    step.push(Entry::mark(writer))?;
+    Ok(step)
+}
+
+/// A Mark where a write is pending in what was just seen of the cell.
+fn settle_seen_over<T: Turns>(
+    site: &mut T,
+    alloc: Global,
+    collection: &Text,
+    shard: u16,
+    cell: u32,
+    stand: u64,
+) -> Result<(), SiteFault>
+    requires { HasCell (T.layout site.old) (T.writer site.old) cell }
+    ensures course { Passed stand (T.writer site.old) (T.writer site.new)
+        (settling (T.layout site.old).limit cell (SiteFault.ShardFull collection.now shard stand)
+        (history_in (get_or (T.writer site.old).seen cell []))) 0 result }
+    ensures layout { T.layout site.new ≡ T.layout site.old }
+{
+    if !site.is_pending(cell) {
+        return Ok(());
+    }
+    match mark_step(alloc, site.number()) {
+        Ok(step) => append_over(site, alloc, collection, shard, cell, step, stand),
+        Err(_) => Err(SiteFault::OutOfMemory { stand }),
+    }
+}
+
+/// One look, and a Mark where a write is pending at it.
+fn settle_over<T: Turns>(
+    site: &mut T,
+    alloc: Global,
+    collection: &Text,
+    shard: u16,
+    cell: u32,
+    stand: u64,
+) -> Result<(), SiteFault>
+    requires { HasCell (T.layout site.old) (T.writer site.old) cell }
+    ensures course { Passed stand (T.writer site.old) (T.writer site.new)
+        (settle_course (T.layout site.old).limit cell
+        (SiteFault.ShardFull collection.now shard stand)) 0 result }
+    ensures layout { T.layout site.new ≡ T.layout site.old }
+{
+    match site.look(cell) {
+        Ok(()) => settle_seen_over(site, alloc, collection, shard, cell, stand),
+        Err(_) => Err(SiteFault::OutOfMemory { stand }),
+    }
+}
+
+/// The shard is settled, unless so many writes went there.
+pub(crate) fn settle_shard_over<T: Turns>(
+    site: &mut T,
+    alloc: Global,
+    collection: &Text,
+    shard: u16,
+    cell: u32,
+    writes: usize,
+    stand: u64,
+) -> Result<(), SiteFault>
+    requires { HasCell (T.layout site.old) (T.writer site.old) cell }
+    ensures course { Passed stand (T.writer site.old) (T.writer site.new)
+        (settle_unless (T.layout site.old).limit cell writes
+        (SiteFault.ShardFull collection.now shard stand)) 0 result }
+    ensures layout { T.layout site.new ≡ T.layout site.old }
+{
+    if writes > 0 {
+        return Ok(());
+    }
+    settle_over(site, alloc, collection, shard, cell, stand)
+}
