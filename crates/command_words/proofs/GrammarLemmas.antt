@@ -1,0 +1,106 @@
+-- What a word names by its looks is what is read of it.
+use Rattle.std.proofs.Common.{◌≡◌, ℕ, ◌+◌, ◌<◌, ◌≤◌, [], ◌∷◌, ◌++◌, length, take, drop}
+use Rattle.std.proofs.Common.{get_or, Bool, true, false, not, ◌&&◌, ◌==◌, if◌then◌else◌, Some, None}
+use Rattle.std.proofs.Common.{refl, sym, ◌∙◌, ap, arith}
+use Rattle.std.specs.Prelude.{nat_lt, nat_le, option_and_then}
+use Rattle.std.specs.Char.{is_ascii_digit}
+use Rattle.std.specs.List.{list_all, position_or_len, before_first, after_first}
+use Rattle.std.specs.Str.Parse.{digits_value}
+use Rattle.std.proofs.lemmas.Bool.{and_parts, and_from, eqb-true, lt-ltb, ltb-true, le-leb}
+use Rattle.std.proofs.lemmas.Bool.{cond-true}
+use Rattle.std.proofs.lemmas.List.{length-append}
+use Rattle.std.proofs.lemmas.List.Sums.{split_at_first, passes_at_first}
+use Rattle.std.proofs.Math.Seq.{take-append_seam, drop-append-add}
+use Rattle.tuple_values.specs.Document.{ByteList}
+use Rattle.tuple_values.specs.declared.names.NameShards.{NameShards}
+use Rattle.command_words.specs.Words.{is_later, begins_well, is_name, in_range, shards_of}
+use Rattle.command_words.specs.Words.{collection, named, is_equals, name_of}
+use Rattle.command_words.specs.Grammar.{IsWord}
+use Rattle.command_words.proofs.WordLemmas.{guard_some, named_some, name_of_fit}
+
+-- a byte of a name is no equals sign
+later_apart : (b : ℕ) (test : Bool) → (b == 61) ≡ test → is_later b ≡ true → (b == 61) ≡ false
+later_apart b false is later = is
+later_apart b true is later =
+    let same : b ≡ 61 = eqb-true b 61 is in
+    let none : is_later b ≡ false = ap is_later same in absurd (cc)
+
+-- a name ends at the equals sign behind it
+name_end : (name digits : ByteList) → list_all is_later name ≡ true
+    → position_or_len is_equals (name ++ (61 ∷ digits)) ≡ length name
+name_end [] digits all = refl
+name_end (b ∷ name) digits all =
+    let parts = and_parts (is_later b) (list_all is_later name) all in
+    let apart : is_equals b ≡ false = later_apart b (b == 61) refl parts.0 in
+    let more = name_end name digits parts.1 in
+    ap (λ t. if not t then 1 + position_or_len is_equals (name ++ (61 ∷ digits)) else 0) apart
+    ∙ omega (arith, more)
+
+-- a number in its range
+in_range_some : (n : ℕ) → 1 ≤ n → n ≤ 8 → in_range n ≡ Some n
+in_range_some n low high =
+    cond-true (nat_le 1 n && nat_le n 8) (Some n) None
+    (and_from (nat_le 1 n) (nat_le n 8) (le-leb 1 n low) (le-leb n 8 high))
+
+-- a name and digits with an equals sign between them are read so
+parts_read : (name digits : ByteList) (n : ℕ) → is_name name ≡ true
+    → list_all is_ascii_digit digits ≡ true → digits_value 10 digits ≡ n → 1 ≤ n → n ≤ 8
+    → name_of (name ++ (61 ∷ digits)) ≡ Some (collection name n)
+parts_read name digits n is_a all counted low high =
+    let word = name ++ (61 ∷ digits) in
+    let front =
+    (and_parts (begins_well name && list_all is_later name) (nat_le (length name) 64) is_a).0 in
+    let later = (and_parts (begins_well name) (list_all is_later name) front).1 in
+    let end = name_end name digits later in
+    let before : before_first is_equals word ≡ name =
+    ap (λ k. take k word) end ∙ take-append_seam name (61 ∷ digits) in
+    let behind : after_first is_equals word ≡ digits =
+    ap (λ k. drop (k + 1) word) end ∙ drop-append-add name (61 ∷ digits) 1 in
+    let inside : position_or_len is_equals word < length word =
+    omega (arith, end, length-append name (61 ∷ digits)) in
+    let count : shards_of digits ≡ Some n =
+    cond-true (list_all is_ascii_digit digits) (in_range (digits_value 10 digits)) None all
+    ∙ ap in_range counted ∙ in_range_some n low high in
+    cond-true (nat_lt (position_or_len is_equals word) (length word))
+    (option_and_then (named (before_first is_equals word)) (shards_of (after_first is_equals word)))
+    None (lt-ltb (position_or_len is_equals word) (length word) inside)
+    ∙ ap (λ l. option_and_then (named l) (shards_of (after_first is_equals word))) before
+    ∙ ap (λ l. option_and_then (named name) (shards_of l)) behind
+    ∙ ap (option_and_then (named name)) count
+    ∙ cond-true (is_name name) (Some (collection name n)) None is_a
+
+-- what the word looks like is read of it
+pub word_read : (word : ByteList) (n : NameShards) → IsWord word n → name_of word ≡ Some n
+word_read word n w =
+    ap name_of w.printed
+    ∙ parts_read n.name w.digits n.shards w.named w.written w.counted w.fit.0 w.fit.1
+
+-- what is read of a word it looks like
+pub word_looks : (word : ByteList) (n : NameShards) → name_of word ≡ Some n → IsWord word n
+word_looks word n e =
+    let digits = after_first is_equals word in
+    let name = before_first is_equals word in
+    let split =
+    guard_some (nat_lt (position_or_len is_equals word) (length word))
+    (option_and_then (named name) (shards_of digits)) n e in
+    let parts = named_some name (shards_of digits) n split.1 in
+    let counted =
+    guard_some (list_all is_ascii_digit digits) (in_range (digits_value 10 digits)) n.shards parts.0
+    in
+    let range =
+    guard_some (nat_le 1 (digits_value 10 digits) && nat_le (digits_value 10 digits) 8)
+    (Some (digits_value 10 digits)) n.shards counted.1 in
+    let inside = ltb-true (position_or_len is_equals word) (length word) split.0 in
+    let sign : get_or word (position_or_len is_equals word) 0 ≡ 61 =
+    eqb-true (get_or word (position_or_len is_equals word) 0) 61
+    (passes_at_first is_equals word 0 inside) in
+    let same : digits_value 10 digits ≡ n.shards = let found = range.1 in cc in
+    record {
+      digits = digits;
+      printed = split_at_first is_equals word 0 inside
+          ∙ ap (λ b. name ++ (b ∷ digits)) sign ∙ ap (λ l. l ++ (61 ∷ digits)) (sym parts.2);
+      named = ap is_name parts.2 ∙ parts.1;
+      written = counted.0;
+      counted = same;
+      fit = name_of_fit word n e;
+    }

@@ -1,0 +1,5 @@
+pub mod Answering
+pub mod Commands
+pub mod Grammar
+pub mod Names
+pub mod Words

@@ -1,0 +1,13 @@
+//! What the words of a command line say: a command, and the collections that it names.
+#![tactic(auto)]
+
+mod command;
+mod fault;
+mod names;
+#[cfg(test)]
+mod tests;
+mod word;
+
+pub use command::{Command, read_command, readings_agree};
+pub use fault::WordsFault;
+pub use names::read_names;
