@@ -1,0 +1,98 @@
+-- How a request is carried out, from what its parts did.
+use Rattle.std.proofs.Common.{◌≡◌, ◌≢◌, refl, sym, ap, subst}
+use Rattle.std.specs.Prelude.{ℕ, Bool, Option, None, Result, Ok, Err, IfOk, codes}
+use Rattle.tuple_values.specs.Document.{ByteList}
+use Rattle.tuple_values.specs.declared.memory.Memory.{Memory}
+use Rattle.json_text.specs.declared.fault.JsonFault.{JsonFault}
+use Rattle.json_text.specs.declared.fault.JsonFault.TheVariants as bad
+use Rattle.json_text.specs.declared.update.Update as body
+use Rattle.exchange_rules.specs.Courses.{Course, ends, and_then}
+use Rattle.exchange_rules.specs.Following.{Writer, Reaches, Answers, Begins}
+use Rattle.exchange_rules.specs.Calls.{Answered, Stopped}
+use Rattle.exchange_rules.specs.Rows.{Layout}
+use Rattle.exchange_rules.specs.declared.fault.SiteFault.{SiteFault}
+use Rattle.exchange_rules.specs.declared.fault.SiteFault.TheVariants.{ShardFull, OutOfMemory}
+use Rattle.exchange_rules.proofs.ReachLemmas.{reaches_none, reaches_then}
+use Rattle.expr_plan.specs.ExprTree.{ExprTree}
+use Rattle.stream_handler.specs.Outcomes.{exception}
+use Rattle.stream_handler.specs.Requests.{Carried, IsBadBody, IsRefusal, indexed, plain_course, stream_course, update_course}
+use Rattle.stream_handler.specs.declared.outcome.Outcome.{Outcome}
+use Rattle.stream_handler.specs.declared.outcome.Outcome.TheVariants.{Indexed}
+
+-- a writer that did nothing followed a beginning of any course
+pub nothing_done : {A : Type 0} (w : Writer) (p : Course A) → Begins w w p
+nothing_done w p = (p, reaches_none w p)
+
+-- and the whole of one that only ends
+pub nothing_asked : {A : Type 0} (w : Writer) (a : A) → Answers w w (ends a) a
+nothing_asked w a = reaches_none w (ends a)
+
+-- a first part that stopped is a beginning
+pub first_stopped : {A B : Type 0} (old new : Writer) (p : Course A) (next : A → Course B)
+    (fault : SiteFault) → Stopped old new p fault → Begins old new (and_then p next)
+first_stopped old new p next (ShardFull collection shard stand) s = absurd s
+first_stopped old new p next (OutOfMemory stand) s =
+    (and_then s.rest next, reaches_then old new p s.rest next s.stood.reached)
+
+-- so is a first part that led to what follows it
+pub first_done : {A B : Type 0} (old new : Writer) (p : Course A) (next : A → Course B) (a : A)
+    → Answers old new p a → Begins old new (and_then p next)
+first_done old new p next a s = (next a, reaches_then old new p (ends a) next s)
+
+-- and it is all where the rest only ends
+pub first_answered : {A B : Type 0} (old new : Writer) (p : Course A) (next : A → Course B)
+    (a : A) (b : B) → next a ≡ ends b → Answers old new p a → Answers old new (and_then p next) b
+first_answered old new p next a b e s =
+    subst (λ q. Reaches old new (and_then p next) q) e (reaches_then old new p (ends a) next s)
+
+-- want of memory may come wherever a beginning was followed
+pub begun : {A : Type 0} (old new : Writer) (p : Course A) (r : Result A Memory)
+    (fault : Memory) → r ≡ Err fault → Begins old new p → Carried old new p r
+begun old new p r fault e b = subst (Carried old new p) (sym e) b
+
+-- a text that says no expression is answered with its fault
+pub told_done : (w : Writer) (l : Layout) (read : Result ExprTree ByteList) (text : ByteList)
+    → read ≡ Err text → Answers w w (plain_course l read) (exception text)
+told_done w l read text e =
+    subst (λ r. Answers w w (plain_course l r) (exception text)) (sym e)
+    (nothing_asked w (exception text))
+
+-- a parameter that isn't there is answered so
+pub missing_done : (w : Writer) (l : Layout) (given : Option ByteList) (text : ByteList)
+    → given ≡ None → text ≡ codes "MissingParam stream expr"
+    → Answers w w (stream_course l given) (exception text)
+missing_done w l given text none said =
+    subst (λ g. Answers w w (stream_course l g) (exception text)) (sym none)
+    (subst (λ t. Answers w w (ends (exception t)) (exception text)) said
+    (nothing_asked w (exception text)))
+
+-- a body that says no update is refused
+pub body_refused : (w : Writer) (l : Layout) (collection : ByteList) (commit : Bool)
+    (read : Result body.Update JsonFault) (fault : JsonFault) (r : Result Outcome Memory)
+    → (fault ≢ bad.OutOfMemory → read ≡ Err fault) → IfOk r (IsBadBody fault)
+    → Carried w w (update_course l collection commit read) r
+body_refused w l collection commit read fault (Ok o) e said =
+    subst (λ x. Answers w w (update_course l collection commit x) o) (sym (e said.told))
+    (subst (λ x. Answers w w (ends x) o) said.refused (nothing_asked w o))
+body_refused w l collection commit read fault (Err memory) e said =
+    nothing_done w (update_course l collection commit read)
+
+-- an update that was carried out
+pub index_done : (old new : Writer) (p : Course (Result ℕ SiteFault)) (writes : ℕ)
+    → Answers old new p (Ok writes)
+    → Answers old new (and_then p (λ r. ends (indexed r))) Indexed
+index_done old new p writes s =
+    first_answered old new p (λ r. ends (indexed r)) (Ok writes) Indexed refl s
+
+-- an update that was refused, or stopped
+pub index_refused : (old new : Writer) (p : Course (Result ℕ SiteFault)) (fault : SiteFault)
+    (r : Result Outcome Memory) → Answered old new p (Err fault) → IfOk r (IsRefusal fault)
+    → Carried old new (and_then p (λ r. ends (indexed r))) r
+index_refused old new p (ShardFull collection shard stand) (Ok o) s e =
+    first_answered old new p (λ r. ends (indexed r)) (Err (ShardFull collection shard stand)) o
+    (ap ends (sym e)) s
+index_refused old new p (ShardFull collection shard stand) (Err memory) s e =
+    first_done old new p (λ r. ends (indexed r)) (Err (ShardFull collection shard stand)) s
+index_refused old new p (OutOfMemory stand) (Ok o) s e = absurd e
+index_refused old new p (OutOfMemory stand) (Err memory) s e =
+    first_stopped old new p (λ r. ends (indexed r)) (OutOfMemory stand) s

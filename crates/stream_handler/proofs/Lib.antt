@@ -1,0 +1,2 @@
+pub mod StorableLemmas
+pub mod CarriedLemmas

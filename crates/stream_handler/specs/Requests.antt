@@ -1,0 +1,88 @@
+-- What a request does at the cells and is answered, as a course (Solr Reference Guide, "Streaming
+-- Expressions" and "Indexing with Update Handlers"; texts of refusals own).
+use Rattle.std.specs.Prelude.{ℕ, ◌≡◌, ◌≢◌, ◌++◌, ◌||◌, Bool, false, List, [], Option, Some, None, Result, Ok, Err}
+use Rattle.std.specs.Prelude.{bytes_eq, codes}
+use Rattle.std.specs.Fmt.{decimal}
+use Rattle.tuple_values.specs.Document.{ByteList}
+use Rattle.exchange_rules.specs.Courses.{Course, ends, and_then}
+use Rattle.exchange_rules.specs.Following.{Writer, Answers, Begins}
+use Rattle.exchange_rules.specs.Rows.{Layout, index_course, cut_course}
+use Rattle.exchange_rules.specs.declared.fault.SiteFault.{SiteFault}
+use Rattle.exchange_rules.specs.declared.fault.SiteFault.TheVariants.{ShardFull, OutOfMemory}
+use Rattle.form_request.specs.Params.{first_value}
+use Rattle.form_request.specs.declared.request.Handler.{Handler}
+use Rattle.form_request.specs.declared.request.Handler.TheVariants.{Stream, Update}
+use Rattle.form_request.specs.declared.request.Param.{Param}
+use Rattle.form_request.specs.declared.request.Request.{Request}
+use Rattle.json_text.specs.Faults as json
+use Rattle.json_text.specs.Updates.{update_in}
+use Rattle.json_text.specs.declared.fault.JsonFault.{JsonFault}
+use Rattle.json_text.specs.declared.fault.JsonFault.TheVariants as bad
+use Rattle.json_text.specs.declared.update.Update as body
+use Rattle.expr_plan.specs.ExprTree.{ExprTree}
+use Rattle.stream_handler.specs.Expressions.{expression_of, collections, list_of}
+use Rattle.stream_handler.specs.Outcomes.{exception}
+use Rattle.stream_handler.specs.declared.outcome.Outcome.{Outcome}
+use Rattle.stream_handler.specs.declared.outcome.Outcome.TheVariants.{Indexed, Refused, ResultSet}
+
+-- the writer followed the course to this answer, or a beginning of it where memory was wanting
+abbrev pub Carried : {A E : Type 0} → Writer → Writer → Course A → Result A E → Type 0
+Carried old new course (Ok a) = Answers old new course a
+Carried old new course (Err fault) = Begins old new course
+
+-- what a reply says of a shard that is full, when so many writes of the request stand
+abbrev pub full_text : ByteList → ℕ → ℕ → ByteList
+full_text collection shard stand =
+    codes "ShardFull " ++ collection ++ codes " " ++ decimal shard ++ codes " after "
+    ++ decimal stand ++ codes " writes"
+
+-- an update that was carried out, or its refusal
+abbrev pub indexed : Result ℕ SiteFault → Outcome
+indexed (Ok writes) = Indexed
+indexed (Err (ShardFull collection shard stand)) = Refused 507 (full_text collection shard stand)
+indexed (Err (OutOfMemory stand)) = Refused 507 (codes "out of memory")
+
+-- the answer is the refusal's, which isn't want of memory
+abbrev pub IsRefusal : SiteFault → Outcome → Type 0
+IsRefusal (ShardFull collection shard stand) o =
+    o ≡ indexed (Err (ShardFull collection shard stand))
+IsRefusal (OutOfMemory stand) o = ⊥
+
+-- the answer is the refusal of a body, whose fault isn't want of memory
+pub record IsBadBody (fault : JsonFault) (o : Outcome) : Type 0 where
+  pub told : fault ≢ bad.OutOfMemory
+  pub refused : o ≡ Refused 400 (json.fault_text fault)
+
+-- an update of a body that was read, to a collection; a commit is asked for beside the body or not
+abbrev pub update_course : Layout → ByteList → Bool → Result body.Update JsonFault → Course Outcome
+update_course l collection commit (Err fault) = ends (Refused 400 (json.fault_text fault))
+update_course l collection commit (Ok update) =
+    and_then (index_course l collection update.writes (update.commit || commit))
+    (λ r. ends (indexed r))
+
+-- an expression that was read and checked: a cut of its collections, and what it gives over it
+abbrev pub plain_course : Layout → Result ExprTree ByteList → Course Outcome
+plain_course l (Err text) = ends (exception text)
+plain_course l (Ok e) =
+    and_then (cut_course l.names [] (collections e)) (λ cut. ends (ResultSet (list_of e cut) None))
+
+-- the expression of a parameter, which has to be there
+abbrev pub stream_course : Layout → Option ByteList → Course Outcome
+stream_course l None = ends (exception (codes "MissingParam stream expr"))
+stream_course l (Some bytes) = plain_course l (expression_of l.names bytes)
+
+-- whether a parameter asks for a commit: `true` alone does
+abbrev pub is_true : Option ByteList → Bool
+is_true None = false
+is_true (Some value) = bytes_eq value (codes "true")
+
+-- what a handler does with a request
+abbrev pub handled : Layout → Request → Handler → Course Outcome
+handled l r Stream = stream_course l (first_value (codes "expr") r.params)
+handled l r Update =
+    update_course l r.collection (is_true (first_value (codes "commit") r.params))
+    (update_in r.body)
+
+-- what a request does and is answered
+abbrev pub request_course : Layout → Request → Course Outcome
+request_course l r = handled l r r.handler

@@ -1,0 +1,31 @@
+-- The bytes of an HTTP response (RFC 9112, sections 4 and 6; which fields stand in it is own).
+use Rattle.std.specs.Prelude.{ℕ, ◌++◌, List, [], Bool, true, false, ◌||◌, nat_le, nat_lt, length}
+use Rattle.std.specs.Prelude.{unwrap_or, codes, if◌then◌else◌}
+use Rattle.std.specs.Fmt.{decimal}
+use Rattle.http.specs.StatusCode.{reason_phrase}
+use Rattle.tuple_values.specs.Document.{ByteList}
+
+-- the phrase of a status, and none where the number is no status
+abbrev pub reason_of : ℕ → ByteList
+reason_of status =
+    if nat_lt status 100 || nat_le 1000 status then [] else unwrap_or (reason_phrase status) []
+
+-- the status line
+abbrev pub status_line : ℕ → ByteList
+status_line status =
+    codes "HTTP/1.1 " ++ decimal status ++ codes " " ++ reason_of status ++ codes "\r\n"
+
+-- the field that says that the connection closes, where it does
+abbrev pub closing : Bool → ByteList
+closing true = codes "Connection: close\r\n"
+closing false = []
+
+-- the fields and the empty line, before a body of so many bytes
+abbrev pub fields : ℕ → Bool → ByteList
+fields size closes =
+    codes "Content-Type: application/json\r\nContent-Length: " ++ decimal size ++ codes "\r\n"
+    ++ closing closes ++ codes "\r\n"
+
+-- a response with this status and body; the connection may close with it
+abbrev pub response : ℕ → Bool → ByteList → ByteList
+response status closes body = status_line status ++ fields (length body) closes ++ body

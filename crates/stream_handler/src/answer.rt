@@ -1,0 +1,67 @@
+// Requests, carried out at a site.
+ghost use Rattle.std.specs.Prelude.{◌≡◌, Ok, option_map};
+ghost use Rattle.expr_plan.specs.ExprViews.{expr_tree};
+ghost use Rattle.stream_handler.specs.Expressions.{expression_of};
+ghost use Rattle.stream_handler.specs.Requests.{Carried, plain_course, stream_course};
+
+use crate::Outcome;
+use crate::plain::{PlainFault, collections, evaluate, read_plain};
+use expr_plan::Expr;
+use std::alloc::Global;
+use stream_site::{Turns, take_cut_over};
+use tuple_values::{Memory, Text};
+
+// What an expression gives over a cut of its collections.
+fn run<T: Turns>(site: &mut T, alloc: Global, expr: &Expr) -> Result<Outcome, Memory>
+    ensures course { Carried (T.writer site.old) (T.writer site.new)
+        (plain_course (T.layout site.old) (Ok (expr_tree expr.now))) result }
+    ensures layout { T.layout site.new ≡ T.layout site.old }
+{
+    let names = collections(alloc, expr)?;
+    match take_cut_over(site, alloc, &names) {
+        Ok(cut) => {
+            let docs = evaluate(alloc, expr, &cut)?;
+            Ok(Outcome::ResultSet {
+                docs,
+                exception: None,
+            })
+        }
+        Err(_) => Err(Memory::OutOfMemory),
+    }
+}
+
+/// What the bytes of an expression give at the site, or the exception of their first fault.
+pub fn run_expression<T: Turns>(
+    site: &mut T,
+    alloc: Global,
+    bytes: &[u8],
+) -> Result<Outcome, Memory>
+    ensures course { Carried (T.writer site.old) (T.writer site.new)
+        (plain_course (T.layout site.old) (expression_of (T.layout site.old).names bytes.now))
+        result }
+    ensures layout { T.layout site.new ≡ T.layout site.old }
+{
+    match read_plain(alloc, site.names(), bytes) {
+        Ok(expr) => run(site, alloc, &expr),
+        Err(PlainFault::Told(text)) => Ok(Outcome::exception(alloc, text)),
+        Err(PlainFault::OutOfMemory) => Err(Memory::OutOfMemory),
+    }
+}
+
+pub(crate) fn run_stream<T: Turns>(
+    site: &mut T,
+    alloc: Global,
+    expr: Option<&str>,
+) -> Result<Outcome, Memory>
+    ensures course { Carried (T.writer site.old) (T.writer site.new)
+        (stream_course (T.layout site.old) (option_map (λ s. s.now) expr.entry)) result }
+    ensures layout { T.layout site.new ≡ T.layout site.old }
+{
+    match expr {
+        Some(text) => run_expression(site, alloc, text.as_bytes()),
+        None => {
+            let text = Text::of(alloc, "MissingParam stream expr")?;
+            Ok(Outcome::exception(alloc, text))
+        }
+    }
+}

@@ -1,0 +1,73 @@
+// The bytes of HTTP responses.
+ghost use Rattle.std.specs.Prelude.{◌≡◌, ◌++◌, IfOk, OnOk};
+ghost use Rattle.std.specs.Fmt.{decimal};
+ghost use Rattle.stream_handler.specs.Responses.{reason_of, status_line, closing, fields, response};
+
+use http::StatusCode;
+use std::alloc::Global;
+use tuple_values::{Bytes, Memory};
+
+// The phrase of a status.
+fn reason(status: u16) -> &'static str
+    ensures { result.now ≡ reason_of status }
+{
+    if status < 100 || status >= 1000 {
+        return "";
+    }
+    match StatusCode::from_u16(status) {
+        Ok(status) => status.canonical_reason().unwrap_or(""),
+        Err(_) => unreachable!(),
+    }
+}
+
+fn push_number(alloc: Global, out: &mut Bytes, n: u64) -> Result<(), Memory>
+    ensures { OnOk result (out.new ≡ out.old ++ decimal n) }
+{
+    let text = format!(in alloc; "{n}")?;
+    out.extend(text.as_bytes())
+}
+
+fn push_status_line(alloc: Global, out: &mut Bytes, status: u16) -> Result<(), Memory>
+    ensures { OnOk result (out.new ≡ out.old ++ status_line status) }
+{
+    out.extend(b"HTTP/1.1 ")?;
+    push_number(alloc, out, u64::from(status))?;
+    out.extend(b" ")?;
+    out.extend(reason(status).as_bytes())?;
+    out.extend(b"\r\n")
+}
+
+fn push_closing(out: &mut Bytes, closes: bool) -> Result<(), Memory>
+    ensures { OnOk result (out.new ≡ out.old ++ closing closes) }
+{
+    if closes {
+        return out.extend(b"Connection: close\r\n");
+    }
+    Ok(())
+}
+
+fn push_fields(alloc: Global, out: &mut Bytes, size: u64, closes: bool) -> Result<(), Memory>
+    ensures { OnOk result (out.new ≡ out.old ++ fields size closes) }
+{
+    out.extend(b"Content-Type: application/json\r\nContent-Length: ")?;
+    push_number(alloc, out, size)?;
+    out.extend(b"\r\n")?;
+    push_closing(out, closes)?;
+    out.extend(b"\r\n")
+}
+
+/// A response with this status and body. Where the connection closes with it, it says so.
+pub(crate) fn response(
+    alloc: Global,
+    status: u16,
+    closes: bool,
+    body: &Bytes,
+) -> Result<Bytes, Memory>
+    ensures { IfOk result (λ bytes. bytes ≡ response status closes body.now) }
+{
+    let mut out = Bytes::new(alloc);
+    push_status_line(alloc, &mut out, status)?;
+    push_fields(alloc, &mut out, body.len() as u64, closes)?;
+    out.extend(body.as_slice())?;
+    Ok(out)
+}

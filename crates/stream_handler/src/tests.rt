@@ -1,0 +1,157 @@
+// What no clause can say: that the courses and replies mean what the rules say, and that each call
+// that takes memory succeeds. Of two shards the second holds id `2` and the first id `3`.
+use crate::{run_expression, run_request};
+use form_request::{Handler, Param, Params, Request};
+use std::alloc::Global;
+use std::test::Fail;
+use stream_site::PlainSite;
+use tuple_values::{Bytes, Memory, NameShards, Names, Text};
+
+// A site with the collection `c` of two shards.
+fn site(alloc: Global) -> Result<PlainSite, Memory> {
+    let name = Text::of(alloc, "c")?;
+    let mut names = Names::new(alloc);
+    names.push(NameShards { name, shards: 2 })?;
+    PlainSite::start(alloc, names, 1_000_000)
+}
+
+// A request to `c` with at most one parameter.
+fn request(
+    alloc: Global,
+    handler: Handler,
+    param: Option<(&str, &str)>,
+    body: &str,
+) -> Result<Request, Memory> {
+    let mut params = Params::new(alloc);
+    if let Some((name, value)) = param {
+        let name = Text::of(alloc, name)?;
+        let value = Text::of(alloc, value)?;
+        params.push(Param { name, value })?;
+    }
+    let mut bytes = Bytes::new(alloc);
+    bytes.extend(body.as_bytes())?;
+    Ok(Request {
+        handler,
+        collection: Text::of(alloc, "c")?,
+        params,
+        body: bytes,
+        closes: false,
+    })
+}
+
+// What the site answers to the request; none where it doesn't know its collection.
+fn reply(
+    site: &mut PlainSite,
+    alloc: Global,
+    handler: Handler,
+    param: Option<(&str, &str)>,
+    body: &str,
+) -> Result<Option<Bytes>, Memory> {
+    let request = request(alloc, handler, param, body)?;
+    if !site.knows(&request.collection) {
+        return Ok(None);
+    }
+    let outcome = run_request(site, alloc, &request)?;
+    Ok(Some(outcome.reply(alloc, request.closes, 0)?))
+}
+
+fn is_text(reply: &Option<Bytes>, text: &str) -> bool {
+    match reply {
+        Some(bytes) => bytes.as_slice() == text.as_bytes(),
+        None => false,
+    }
+}
+
+#[test]
+fn updates_and_searches_are_answered(rt: HostRuntime) -> Result<(), Fail> {
+    let alloc = rt.alloc();
+    let mut site = site(alloc)?;
+    let body = "[{\"id\":\"2\",\"n_i\":7},{\"id\":\"3\",\"n_i\":5}]";
+    let updated = reply(
+        &mut site,
+        alloc,
+        Handler::Update,
+        Some(("commit", "true")),
+        body,
+    )?;
+    assert!(rt;
+        is_text(
+            &updated,
+            "HTTP/1.1 200 OK\r\nContent-Type: application/json\r\nContent-Length: 41\r\n\r\n\
+         {\"responseHeader\":{\"status\":0,\"QTime\":0}}",
+        )
+    );
+    let pending = "[{\"id\":\"4\",\"n_i\":1}]";
+    let uncommitted = reply(
+        &mut site,
+        alloc,
+        Handler::Update,
+        Some(("commit", "yes")),
+        pending,
+    )?;
+    assert!(rt; uncommitted.is_some());
+    let expr = "search(c,q=\"*:*\",fl=\"id,n_i\",sort=\"n_i asc\")";
+    let found = reply(&mut site, alloc, Handler::Stream, Some(("expr", expr)), "")?;
+    assert!(rt;
+        is_text(
+            &found,
+            "HTTP/1.1 200 OK\r\nContent-Type: application/json\r\nContent-Length: 94\r\n\r\n\
+         {\"result-set\":{\"docs\":[{\"id\":\"3\",\"n_i\":5},{\"id\":\"2\",\"n_i\":7},\
+         {\"EOF\":true,\"RESPONSE_TIME\":0}]}}",
+        )
+    );
+    Ok(())
+}
+
+#[test]
+fn refusals_are_told(rt: HostRuntime) -> Result<(), Fail> {
+    let alloc = rt.alloc();
+    let mut site = site(alloc)?;
+    let missing = reply(&mut site, alloc, Handler::Stream, None, "")?;
+    assert!(rt;
+        is_text(
+            &missing,
+            "HTTP/1.1 200 OK\r\nContent-Type: application/json\r\nContent-Length: 95\r\n\r\n\
+         {\"result-set\":{\"docs\":[{\"EOF\":true,\"EXCEPTION\":\"MissingParam stream expr\",\
+         \"RESPONSE_TIME\":0}]}}",
+        )
+    );
+    let refused = reply(&mut site, alloc, Handler::Update, None, "{")?;
+    assert!(rt;
+        is_text(
+            &refused,
+            "HTTP/1.1 400 Bad Request\r\nContent-Type: application/json\r\nContent-Length: 80\r\n\r\n\
+         {\"responseHeader\":{\"status\":400,\"QTime\":0},\
+         \"error\":{\"msg\":\"NotJson\",\"code\":400}}",
+        )
+    );
+    Ok(())
+}
+
+#[test]
+fn expressions_are_answered(rt: HostRuntime) -> Result<(), Fail> {
+    let alloc = rt.alloc();
+    let cases = [
+        ("tuple(a=1)", "{\"a\":1},{\"EOF\":true,\"RESPONSE_TIME\":0}"),
+        (
+            "search(d,q=\"*:*\",fl=\"id\",sort=\"id asc\")",
+            "{\"EOF\":true,\"EXCEPTION\":\"UnknownCollection d\",\"RESPONSE_TIME\":0}",
+        ),
+        (
+            "search(c,q=\"*:*\",fl=\"id\",sort=\"n_i asc\")",
+            "{\"EOF\":true,\"EXCEPTION\":\"SortFieldNotInFl n_i\",\"RESPONSE_TIME\":0}",
+        ),
+        (
+            "sum(a=1)",
+            "{\"EOF\":true,\"EXCEPTION\":\"UnknownFunction sum\",\"RESPONSE_TIME\":0}",
+        ),
+    ];
+    for (expr, docs) in cases {
+        let mut site = site(alloc)?;
+        let outcome = run_expression(&mut site, alloc, expr.as_bytes())?;
+        let body = outcome.body(alloc, 0)?;
+        let wanted = format!(in alloc; "{{\"result-set\":{{\"docs\":[{docs}]}}}}")?;
+        assert!(rt; body.as_slice() == wanted.as_bytes());
+    }
+    Ok(())
+}

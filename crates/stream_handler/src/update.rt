@@ -1,0 +1,97 @@
+// Updates, carried out at a site.
+ghost use Rattle.std.specs.Prelude.{◌≡◌, ◌<◌, ◌||◌, IfOk, Ok};
+ghost use Rattle.topic_book.specs.Fitness.{shards_of};
+ghost use Rattle.exchange_rules.specs.Steps.{AreStorableWrites};
+ghost use Rattle.json_text.specs.Updates.{update_in};
+ghost use Rattle.stream_handler.specs.Requests.{Carried, IsBadBody, IsRefusal, full_text, update_course};
+
+use crate::Outcome;
+use exchange_rules::SiteFault;
+use json_text::{JsonFault, Update, read_update};
+use std::alloc::Global;
+use stream_site::{Turns, index_over};
+use tuple_values::{Memory, Text};
+
+// What a reply says of a shard that is full.
+fn full_text(alloc: Global, collection: &Text, shard: u16, stand: u64) -> Result<Text, Memory>
+    ensures { IfOk result (λ text. text ≡ full_text collection.now shard stand) }
+{
+    let collection = collection.as_str();
+    let text = format!(in alloc; "ShardFull {collection} {shard} after {stand} writes")?;
+    Ok(Text::from_string(text))
+}
+
+// The answer to an update that was refused. Want of memory stays.
+fn refusal(alloc: Global, fault: &SiteFault) -> Result<Outcome, Memory>
+    ensures { IfOk result (IsRefusal fault.now) }
+{
+    match fault {
+        SiteFault::ShardFull {
+            collection,
+            shard,
+            stand,
+        } => {
+            let msg = full_text(alloc, collection, *shard, *stand)?;
+            Ok(Outcome::Refused { code: 507, msg })
+        }
+        SiteFault::OutOfMemory { .. } => Err(Memory::OutOfMemory),
+    }
+}
+
+// Whether a commit is asked for, in the body or beside it.
+fn is_asked(body: bool, beside: bool) -> bool
+    ensures { result ≡ (body || beside) }
+{
+    body || beside
+}
+
+// An update that was read, carried out.
+fn index<T: Turns>(
+    site: &mut T,
+    alloc: Global,
+    collection: &Text,
+    update: Update,
+    commit: bool,
+) -> Result<Outcome, Memory>
+    requires known { 0 < shards_of (T.layout site.old).names collection.now }
+    requires storable { AreStorableWrites update.writes }
+    ensures course { Carried (T.writer site.old) (T.writer site.new)
+        (update_course (T.layout site.old) collection.now commit (Ok update)) result }
+    ensures layout { T.layout site.new ≡ T.layout site.old }
+{
+    let commit = is_asked(update.commit, commit);
+    match index_over(site, alloc, collection, update.writes, commit) {
+        Ok(_) => Ok(Outcome::Indexed),
+        Err(fault) => refusal(alloc, &fault),
+    }
+}
+
+// The answer to a body that is no update. Want of memory stays.
+fn bad_body(alloc: Global, fault: &JsonFault) -> Result<Outcome, Memory>
+    ensures { IfOk result (IsBadBody fault.now) }
+{
+    if let JsonFault::OutOfMemory = fault {
+        return Err(Memory::OutOfMemory);
+    }
+    let msg = fault.text(alloc)?;
+    Ok(Outcome::Refused { code: 400, msg })
+}
+
+/// The update that a body asks for, carried out at the site's collection, or refused.
+pub(crate) fn run_update<T: Turns>(
+    site: &mut T,
+    alloc: Global,
+    collection: &Text,
+    commit: bool,
+    body: &[u8],
+) -> Result<Outcome, Memory>
+    requires known { 0 < shards_of (T.layout site.old).names collection.now }
+    ensures course { Carried (T.writer site.old) (T.writer site.new)
+        (update_course (T.layout site.old) collection.now commit (update_in body.now)) result }
+    ensures layout { T.layout site.new ≡ T.layout site.old }
+{
+    match read_update(alloc, body) {
+        Ok(update) => index(site, alloc, collection, update, commit),
+        Err(fault) => bad_body(alloc, &fault),
+    }
+}
