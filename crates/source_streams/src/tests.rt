@@ -91,9 +91,7 @@ fn ids(alloc: Global, mut cursor: SearchCursor) -> Result<String, Fail> {
 // The tuples of an expression over a cut, where it is a search.
 fn cursor(alloc: Global, search: &Expr, cut: &Cut) -> Result<Option<SearchCursor>, Memory> {
     match search {
-        Expr::Search { .. } => {
-            Ok(Some(SearchCursor::make(alloc, search, cut, Part::whole())?))
-        }
+        Expr::Search { .. } => { Ok(Some(SearchCursor::make(alloc, search, cut, Part::whole())?)) }
         _ => Ok(None),
     }
 }
