@@ -233,50 +233,6 @@ ends_at_fourth x y z w tail none d rest more s e =
         let t : v ≡ w = cc in
         none d tail s (rw k (sym (λ i. p i ∷ q' i ∷ r i ∷ t i ∷ tail)))
 
--- ---- no ASCII byte goes on with it
-
--- a parenthesis behind one begun byte is no text
-closed_one : (x : ℕ) (tail : List ℕ) → NoChar (x ∷ tail) → (d : ℕ) (rest : List ℕ) → scalar d ≡ true
-    → encode d ++ rest ≡ x ∷ 41 ∷ [] → ⊥
-closed_one x tail none d rest s e = by (wide d s (first_wide x tail none d rest (41 ∷ []) s e))
-  where
-    off : (a b : ℕ) (others : List ℕ) → Follows b → a ∷ b ∷ others ≡ x ∷ 41 ∷ [] → ⊥
-    off a b others f whole = let same : b ≡ 41 = cc in omega (arith, f.0)
-
-    by : Wide d → ⊥
-    by (of_two a b l q f k) = off a b rest f (rw k at e)
-    by (of_three a b c l q f g k) = off a b (c ∷ rest) f (rw k at e)
-    by (of_four a b c v l q f g h k) = off a b (c ∷ v ∷ rest) f (rw k at e)
-
--- nor is one behind two
-closed_two : (x y : ℕ) (tail : List ℕ) → NoChar (x ∷ y ∷ tail) → (d : ℕ) (rest : List ℕ)
-    → scalar d ≡ true → encode d ++ rest ≡ x ∷ y ∷ 41 ∷ [] → ⊥
-closed_two x y tail none d rest s e =
-    by (wide d s (first_wide x (y ∷ tail) none d rest (y ∷ 41 ∷ []) s e))
-  where
-    off : (a b c : ℕ) (others : List ℕ) → Follows c → a ∷ b ∷ c ∷ others ≡ x ∷ y ∷ 41 ∷ [] → ⊥
-    off a b c others f whole = let same : c ≡ 41 = cc in omega (arith, f.0)
-
-    by : Wide d → ⊥
-    by (of_two a b l q f k) = none d tail s (two_of d rest (41 ∷ []) x y tail a b k e)
-    by (of_three a b c l q f g k) = off a b c rest g (rw k at e)
-    by (of_four a b c v l q f g h k) = off a b c (v ∷ rest) g (rw k at e)
-
--- nor is one behind three
-closed_three : (x y z : ℕ) (tail : List ℕ) → NoChar (x ∷ y ∷ z ∷ tail) → (d : ℕ) (rest : List ℕ)
-    → scalar d ≡ true → encode d ++ rest ≡ x ∷ y ∷ z ∷ 41 ∷ [] → ⊥
-closed_three x y z tail none d rest s e =
-    by (wide d s (first_wide x (y ∷ z ∷ tail) none d rest (y ∷ z ∷ 41 ∷ []) s e))
-  where
-    by : Wide d → ⊥
-    by (of_two a b l q f k) =
-        none d (z ∷ tail) s (two_of d rest (z ∷ 41 ∷ []) x y (z ∷ tail) a b k e)
-    by (of_three a b c l q f g k) = none d tail s (three_of d rest (41 ∷ []) x y z tail a b c k e)
-    by (of_four a b c v l q f g h k) =
-        let whole : a ∷ b ∷ c ∷ v ∷ rest ≡ x ∷ y ∷ z ∷ 41 ∷ [] = rw k at e in
-        let same : v ≡ 41 = cc in
-        omega (arith, h.0)
-
 -- ---- the bytes that are begun
 
 -- by how many bytes are begun
@@ -284,8 +240,6 @@ pub record Begun (tail : List ℕ) (count : ℕ) : Type 0 where
   pub completed : 0 < count → Completed (take count tail)
   pub ends : count < length tail → (d : ℕ) (rest more : List ℕ) → scalar d ≡ true
       → encode d ++ rest ≡ take (count + 1) tail ++ more → ⊥
-  pub closed : 0 < count → (d : ℕ) (rest : List ℕ) → scalar d ≡ true
-      → encode d ++ rest ≡ take count tail ++ 41 ∷ [] → ⊥
   pub within : count ≤ length tail
 
 -- what is begun, by either value of a test
@@ -299,7 +253,6 @@ none_begun : (x : ℕ) (tail : List ℕ) → NoChar (x ∷ tail) → is_lead x �
 none_begun x tail none missing = record {
   completed = λ h. absurd (omega arith);
   ends = λ h d rest more s e. ends_at_first x tail none missing d rest more s e;
-  closed = λ h. absurd (omega arith);
   within = omega arith;
 }
 
@@ -308,7 +261,6 @@ pub begun : (tail : List ℕ) → NoChar tail → Begun tail (begun_bytes tail)
 begun [] none = record {
   completed = λ h. absurd (omega arith);
   ends = λ h. absurd (omega arith);
-  closed = λ h. absurd (omega arith);
   within = omega arith;
 }
 begun (x ∷ []) none = if_begun (is_lead x) _ _ _
@@ -317,7 +269,6 @@ begun (x ∷ []) none = if_begun (is_lead x) _ _ _
     (λ s. record {
       completed = λ h. one_byte x l;
       ends = λ h. absurd (omega arith);
-      closed = λ h d rest k e. closed_one x [] none d rest k e;
       within = omega arith;
     }))
     (none_begun x [] none)
@@ -326,13 +277,11 @@ begun (x ∷ y ∷ []) none = if_begun (is_lead x) _ _ _
     (λ s. record {
       completed = λ h. two_bytes x y l s;
       ends = λ h. absurd (omega arith);
-      closed = λ h d rest k e. closed_two x y [] none d rest k e;
       within = omega arith;
     })
     (λ s. record {
       completed = λ h. one_byte x l;
       ends = λ h d rest more k e. ends_at_second x y [] none s d rest more k e;
-      closed = λ h d rest k e. closed_one x (y ∷ []) none d rest k e;
       within = omega arith;
     }))
     (none_begun x (y ∷ []) none)
@@ -342,19 +291,16 @@ begun (x ∷ y ∷ z ∷ tail) none = if_begun (is_lead x) _ _ _
     (λ f. record {
       completed = λ h. three_bytes x y z tail none l s f;
       ends = λ h d rest more k e. fourth tail none h d rest more k e;
-      closed = λ h d rest k e. closed_three x y z tail none d rest k e;
       within = omega arith;
     })
     (λ f. record {
       completed = λ h. two_bytes x y l s;
       ends = λ h d rest more k e. ends_at_third x y z tail none f d rest more k e;
-      closed = λ h d rest k e. closed_two x y (z ∷ tail) none d rest k e;
       within = omega arith;
     }))
     (λ s. record {
       completed = λ h. one_byte x l;
       ends = λ h d rest more k e. ends_at_second x y (z ∷ tail) none s d rest more k e;
-      closed = λ h d rest k e. closed_one x (y ∷ z ∷ tail) none d rest k e;
       within = omega arith;
     }))
     (none_begun x (y ∷ z ∷ tail) none)

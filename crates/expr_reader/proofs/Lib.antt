@@ -1,8 +1,12 @@
 pub mod BegunLemmas
 pub mod CallLemmas
 pub mod CompleteLemmas
+pub mod CountLemmas
+pub mod CountedLemmas
 pub mod EndLemmas
 pub mod FrontLemmas
+pub mod LettersLemmas
+pub mod LimitLemmas
 pub mod PlaceLemmas
 pub mod ReadLemmas
 pub mod RefusalLemmas
@@ -10,6 +14,6 @@ pub mod RunLemmas
 pub mod SoundLemmas
 pub mod StepLemmas
 pub mod TakeLemmas
-pub mod TellLemmas
 pub mod TextLemmas
 pub mod Utf8Lemmas
+pub mod WideLemmas

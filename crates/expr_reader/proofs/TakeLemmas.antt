@@ -9,11 +9,13 @@ use Rattle.std.proofs.lemmas.Bool.{false≢true}
 use Rattle.expr_reader.specs.declared.machine.Place.{Place}
 use Rattle.expr_reader.specs.Letters.{is_blank, is_name_letter}
 use Rattle.expr_reader.specs.Letters.{is_special}
-use Rattle.expr_reader.specs.Machine.{Machine, step, end_word, bare_step}
-use Rattle.expr_reader.specs.declared.machine.Place.TheVariants.{Start, Name}
+use Rattle.expr_reader.specs.Machine.{Machine, grow, close}
+use Rattle.expr_reader.specs.Steps.{step, bare_step, stop}
+use Rattle.expr_reader.specs.declared.open_calls.OpenCall.{OpenCall}
+use Rattle.expr_reader.specs.declared.machine.Place.TheVariants.{Start}
 use Rattle.expr_reader.specs.declared.machine.Place.TheVariants.{Before, Bare, Quote}
-use Rattle.expr_reader.specs.declared.machine.Place.TheVariants.{AfterQuote, Close}
-use Rattle.expr_reader.specs.Word.{AreBlank, EndsPlain, Inside}
+use Rattle.expr_reader.specs.declared.machine.Place.TheVariants.{AfterQuote}
+use Rattle.expr_reader.specs.Word.{AreBlank, EndsPlain, IsBare, Inside}
 use Rattle.expr_reader.specs.Word.{nothing_more, letter, escaped_quote, kept_backslash}
 use Rattle.expr_reader.specs.Word.{inside_print, inside_text, IsInside, Writing, bare, quoted}
 use Rattle.expr_reader.specs.Word.{writing_print, writing_text, is_quoted, IsWriting}
@@ -44,15 +46,19 @@ pub at_start : (m : Machine) (ws : List ℕ) → AreBlank ws
     → go (record m { place = Start }) ws ≡ Some (record m { place = Start })
 at_start m = blanks_stay (record m { place = Start }) (λ c e. rw e refl)
 
--- letters go on with the name
-pub in_name : (m : Machine) (cs : List ℕ) → AllByRecursion (λ c. is_name_letter c ≡ true) cs
-    → go (record m { place = Name }) cs ≡ Some
-    (record m { place = Name; name = m.name ++ encode_utf8_all cs })
-in_name m [] h = rw (append-nil m.name) refl
-in_name m (c ∷ cs) h =
-    rw h.0 (in_name (record m { name = m.name ++ encode_utf8 c }) cs h.1
-    ∙ ap (λ t. Some (record m { place = Name; name = t }))
-    (append_assoc m.name (encode_utf8 c) (encode_utf8_all cs)))
+-- letters go on with a name where each of them goes on with the text
+pub letters_grow : (q : Place)
+    → ((n : Machine) (c : ℕ) → is_name_letter c ≡ true
+    → step (record n { place = q }) c ≡ Some (grow (encode_utf8 c) (record n { place = q })))
+    → (m : Machine) (cs : List ℕ) → AllByRecursion (λ c. is_name_letter c ≡ true) cs
+    → go (record m { place = q; blanks = [] }) cs ≡ Some
+    (record m { place = q; text = m.text ++ encode_utf8_all cs; blanks = [] })
+letters_grow q s m [] h = rw (append-nil m.text) refl
+letters_grow q s m (c ∷ cs) h =
+    rw (s (record m { blanks = [] }) c h.0)
+    (letters_grow q s (record m { text = (m.text ++ []) ++ encode_utf8 c }) cs h.1
+    ∙ ap (λ t. Some (record m { place = q; text = t; blanks = [] }))
+    (simp (append-nil, append_assoc)))
 
 -- either part of an or that is false is false
 pub or_false : (a b : Bool) → (a || b) ≡ false → (a ≡ false) × (b ≡ false)
@@ -78,7 +84,7 @@ plain c h =
 
 -- such a character goes on with bare text, with the blanks before it
 pub bare_on : (m : Machine) (c : ℕ) → is_blank c ≡ false → is_special c ≡ false
-    → bare_step m c ≡ Some (record m { text = (m.text ++ m.blanks) ++ encode_utf8 c; blanks = [] })
+    → bare_step m c ≡ Some (grow (encode_utf8 c) m)
 bare_on m c nb ns = let p = plain c ns in
     rw (nb, p.comma, p.close, p.equals, p.bracket, p.quote) refl
 
@@ -140,41 +146,25 @@ in_quote m (escaped_quote more) h =
     ∙ ap (λ t. Some (record m { place = Quote; text = t; blanks = [] }))
     (simp (append-nil, append_assoc))
 in_quote m (kept_backslash c more) h =
-    rw h.0 (in_quote (record m { text = ((m.text ++ []) ++ 92 ∷ []) ++ encode_utf8 c }) more h.1
+    rw h.0 (in_quote (record m { text = (((m.text ++ []) ++ 92 ∷ []) ++ []) ++ encode_utf8 c })
+    more h.1
     ∙ ap (λ t. Some (record m { place = Quote; text = t; blanks = [] }))
     (simp (append-nil, append_assoc)))
 
--- what ends a word: a comma, or the closing bracket after the last
-abbrev pub stop : Bool → ℕ
-stop true = 41
-stop false = 44
+-- what ends an argument: a comma, or the closing parenthesis behind the last
+abbrev pub stop_char : Bool → ℕ
+stop_char true = 41
+stop_char false = 44
 
 -- where each of them leads
-abbrev pub next : Bool → Place
-next true = Close
-next false = Before
+abbrev pub ends : Bool → Machine → Machine
+ends true m = close m
+ends false m = record m { place = Before }
 
--- the machine that has read a word as an argument
-abbrev pub with_word : Bool → Machine → Writing → Machine
-with_word last m w = record m {
-  place = next last;
-  args = m.args ++ word_tree m.key (writing_text w)
-      (is_quoted w) ∷ [];
-  key = None;
-  text = [];
-  blanks = [];
-}
-
--- bare text with blanks behind it ends at a comma or a parenthesis
-pub bare_stops : (last : Bool) (m : Machine) (ws : List ℕ) → AreBlank ws
-    → go (record m { place = Bare }) (ws ++ stop last ∷ []) ≡ Some (end_word false (next last) m)
-bare_stops last m ws h =
-    go_then (record m { place = Bare }) _ ws (stop last ∷ []) _ (bare_blanks m ws h) (by_last last)
-  where
-    by_last : (l : Bool) → go (record m { place = Bare; blanks = m.blanks ++ encode_utf8_all ws })
-        (stop l ∷ []) ≡ Some (end_word false (next l) m)
-    by_last true = refl
-    by_last false = refl
+-- they are taken
+pub stop_taken : (last : Bool) (m : Machine) → stop m (stop_char last) ≡ Some (ends last m)
+stop_taken true m = refl
+stop_taken false m = refl
 
 -- a character begins bare text
 pub first_bare : (m : Machine) (c : ℕ) → is_blank c ≡ false → is_special c ≡ false
@@ -183,36 +173,73 @@ pub first_bare : (m : Machine) (c : ℕ) → is_blank c ≡ false → is_special
 first_bare m c nb ns = let p = plain c ns in
     rw (nb, p.quote, p.comma, p.bracket, p.close, p.equals) refl
 
--- a word with blanks behind it is read up to its end
-pub word_read : (last : Bool) (m : Machine) (w : Writing) (ws : List ℕ) → IsWriting w → AreBlank ws
-    → go (record m { place = Before }) (writing_print w ++ (ws ++ stop last ∷ [])) ≡ Some
-    (with_word last m w)
-word_read last m (bare []) ws h k = absurd h.1
-word_read last m (bare (c ∷ [])) ws h k =
+-- bare text is read as its bytes
+pub bare_text : (m : Machine) (cs : List ℕ) → IsBare cs
+    → go (record m { place = Before }) cs ≡ Some
+    (record m { place = Bare; text = encode_utf8_all cs; blanks = [] })
+bare_text m [] h = absurd h.1
+bare_text m (c ∷ []) h =
     rw (first_bare m c h.1 h.0.0)
-    (bare_stops last (record m { text = encode_utf8 c; blanks = [] }) ws k
-    ∙ ap (λ t. Some (end_word false (next last) (record m { text = t; blanks = [] })))
+    (ap (λ t. Some (record m { place = Bare; text = t; blanks = [] }))
     (sym (append-nil (encode_utf8 c))))
-word_read last m (bare (c ∷ d ∷ cs)) ws h k =
-    let on = in_bare (record m { text = encode_utf8 c; blanks = [] }) (d ∷ cs) h.0.1 h.2 in
+bare_text m (c ∷ d ∷ cs) h =
     rw (first_bare m c h.1 h.0.0)
-    (go_then (record m { place = Bare; text = encode_utf8 c; blanks = [] }) _ (d ∷ cs)
-    (ws ++ stop last ∷ []) _ on
-    (bare_stops last (record m
-    { text = (encode_utf8 c ++ []) ++ encode_utf8_all (d ∷ cs); blanks = [] }) ws k
-    ∙ ap (λ t. Some (end_word false (next last) (record m { text = t; blanks = [] })))
-    (simp append-nil)))
-word_read last m (quoted i) ws h k =
-    subst (λ t. go (record m { place = Before }) (34 ∷ t) ≡ Some (with_word last m (quoted i)))
-    (sym (append_assoc (inside_print i) (34 ∷ []) (ws ++ stop last ∷ [])))
-    (go_then (record m { place = Quote; text = []; blanks = [] }) _ (inside_print i)
-    (34 ∷ (ws ++ stop last ∷ [])) _ (in_quote (record m { text = [] }) i h)
-    (go_then (record m { place = AfterQuote; text = inside_text i; blanks = [] }) _ ws
-    (stop last ∷ []) _
-    (blanks_stay (record m { place = AfterQuote; text = inside_text i; blanks = [] })
-    (λ c e. rw e refl) ws k) (by_last last)))
-  where
-    by_last : (l : Bool) → go (record m { place = AfterQuote; text = inside_text i; blanks = [] })
-        (stop l ∷ []) ≡ Some (with_word l m (quoted i))
-    by_last true = refl
-    by_last false = refl
+    (in_bare (record m { text = encode_utf8 c; blanks = [] }) (d ∷ cs) h.0.1 h.2
+    ∙ ap (λ t. Some (record m { place = Bare; text = t; blanks = [] })) (simp append-nil))
+
+-- the machine takes characters, and then a comma or a parenthesis as behind an argument
+pub record UpTo (m : Machine) (cs : List ℕ) (n : Machine) : Type 0 where
+  pub at : Machine
+  pub taken : go m cs ≡ Some at
+  pub stops : (last : Bool) → step at (stop_char last) ≡ Some (ends last n)
+
+-- more characters before
+pub up_to_then : (m n r : Machine) (xs ys : List ℕ) → go m xs ≡ Some n → UpTo n ys r
+    → UpTo m (xs ++ ys) r
+up_to_then m n r xs ys h u = record {
+  at = u.at;
+  taken = go_then m n xs ys (Some u.at) h u.taken;
+  stops = u.stops;
+}
+
+-- a word with blanks behind it is read up to its end
+pub word_read : (o : OpenCall) (outer : List OpenCall) (m : Machine) (w : Writing) (ws : List ℕ)
+    → IsWriting w → AreBlank ws
+    → UpTo (record m { place = Before; outer = o ∷ outer }) (writing_print w ++ ws)
+    (record m {
+      place = Before;
+      args = m.args ++ word_tree m.key (writing_text w) (is_quoted w) ∷ [];
+      key = None;
+      text = [];
+      blanks = [];
+      outer = o ∷ outer;
+    })
+word_read o outer m (bare cs) ws h k = record {
+  at = record m {
+    place = Bare;
+    text = encode_utf8_all cs;
+    blanks = encode_utf8_all ws;
+    outer = o ∷ outer;
+  };
+  taken = go_then (record m { place = Before; outer = o ∷ outer }) _ cs ws _
+      (bare_text (record m { outer = o ∷ outer }) cs h)
+      (bare_blanks (record m { text = encode_utf8_all cs; blanks = []; outer = o ∷ outer }) ws k);
+  stops = elim [ true ↦ refl | false ↦ refl ];
+}
+word_read o outer m (quoted i) ws h k = record {
+  at = record m {
+    place = AfterQuote;
+    text = inside_text i;
+    blanks = [];
+    outer = o ∷ outer;
+  };
+  taken = subst (λ t. go (record m { place = Before; outer = o ∷ outer }) (34 ∷ t) ≡ Some
+      (record m { place = AfterQuote; text = inside_text i; blanks = []; outer = o ∷ outer }))
+      (sym (append_assoc (inside_print i) (34 ∷ []) ws))
+      (go_then (record m { place = Quote; text = []; blanks = []; outer = o ∷ outer }) _
+      (inside_print i) (34 ∷ ws) _ (in_quote (record m { text = []; outer = o ∷ outer }) i h)
+      (blanks_stay (record m
+      { place = AfterQuote; text = inside_text i; blanks = []; outer = o ∷ outer })
+      (λ c e. rw e refl) ws k));
+  stops = elim [ true ↦ refl | false ↦ refl ];
+}

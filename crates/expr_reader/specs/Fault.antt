@@ -3,40 +3,36 @@ use Rattle.std.specs.Prelude.{◌≡◌, ℕ, ◌++◌, Option, Some, None, Resu
 use Rattle.std.specs.Fmt.{decimal}
 use Rattle.expr_reader.specs.Tree.{ByteList, CallTree}
 use Rattle.expr_reader.specs.Views.{call_tree}
-use Rattle.expr_reader.specs.Grammar.{BeginsInnerCall}
+use Rattle.expr_reader.specs.Grammar.{IsTooLarge}
 use Rattle.expr_reader.specs.Machine.{Machine}
-use Rattle.expr_reader.specs.Reading.{Outcome, ended, stuck, refusal}
+use Rattle.expr_reader.specs.Reading.{Outcome, ended, stuck, over}
 use Rattle.expr_reader.specs.declared.call.Call.{Call}
 use Rattle.expr_reader.specs.declared.fault.ExprFault.{ExprFault}
-use Rattle.expr_reader.specs.declared.fault.ExprFault.TheVariants.{Syntax, TooLarge, NotYet}
-use Rattle.expr_reader.specs.declared.fault.ExprFault.TheVariants.{OutOfMemory}
+use Rattle.expr_reader.specs.declared.fault.ExprFault.TheVariants.{TooLarge, Syntax, OutOfMemory}
 
 -- what a reply says of a fault
 abbrev pub fault_text : ExprFault → ByteList
-fault_text (Syntax at) = codes "Syntax at " ++ decimal at
 fault_text TooLarge = codes "TooLarge"
-fault_text (NotYet at) = codes "NotYet " ++ decimal at
+fault_text (Syntax at) = codes "Syntax at " ++ decimal at
 fault_text OutOfMemory = codes "out of memory"
 
 -- a fact of the place, where the fault has one
 abbrev pub IfPlaced : ExprFault → (ℕ → Type 0) → Type 0
-IfPlaced (Syntax at) P = P at
 IfPlaced TooLarge P = Unit {0}
-IfPlaced (NotYet at) P = P at
+IfPlaced (Syntax at) P = P at
 IfPlaced OutOfMemory P = Unit {0}
 
--- `NotYet` is told exactly where a call is begun in a call
-abbrev pub TellsInnerCall : ByteList → ExprFault → Type 0
-TellsInnerCall bytes (Syntax at) = ¬ (BeginsInnerCall bytes at)
-TellsInnerCall bytes TooLarge = Unit {0}
-TellsInnerCall bytes (NotYet at) = BeginsInnerCall bytes at
-TellsInnerCall bytes OutOfMemory = Unit {0}
+-- `TooLarge` is told exactly where there is too much, unless memory was wanting
+abbrev pub TellsLarge : {X : Type 0} → ByteList → Result X ExprFault → Type 0
+TellsLarge bytes (Ok x) = ¬ (IsTooLarge bytes)
+TellsLarge bytes (Err TooLarge) = IsTooLarge bytes
+TellsLarge bytes (Err (Syntax at)) = ¬ (IsTooLarge bytes)
+TellsLarge bytes (Err OutOfMemory) = Unit {0}
 
 -- the fault is the one that stands there, unless memory was wanting
 abbrev pub IsFaultOf : Result CallTree ExprFault → ExprFault → Type 0
-IsFaultOf read (Syntax at) = read ≡ Err (Syntax at)
 IsFaultOf read TooLarge = read ≡ Err TooLarge
-IsFaultOf read (NotYet at) = read ≡ Err (NotYet at)
+IsFaultOf read (Syntax at) = read ≡ Err (Syntax at)
 IsFaultOf read OutOfMemory = Unit {0}
 
 -- the answer is the one that stands there, unless memory was wanting
@@ -47,7 +43,8 @@ Answers read (Err e) = IsFaultOf read e
 -- the fault of a run
 abbrev pub fault_of : Outcome → Option ExprFault
 fault_of (ended m) = None
-fault_of (stuck at m c) = Some (refusal at m c)
+fault_of (stuck at m c) = Some (Syntax at)
+fault_of over = Some TooLarge
 
 -- how a run of the code ended, unless memory was wanting
 abbrev pub EndsIn : Outcome → Machine → Option ExprFault → Type 0

@@ -1,12 +1,15 @@
 pub mod Codes
+pub mod Counts
 pub mod Falls
 pub mod Fault
 pub mod Grammar
 pub mod Layout
 pub mod Letters
 pub mod Machine
+pub mod OpenCalls
 pub mod OpenText
 pub mod Reading
+pub mod Steps
 pub mod Tree
 pub mod Views
 pub mod Word

@@ -1,18 +1,18 @@
--- Reading an expression, a character at a time (own).
-use Rattle.std.specs.Prelude.{◌≡◌, ℕ, List, [], ◌∷◌, ◌++◌, Bool, true, false, ◌&&◌, ◌==◌, is_none}
-use Rattle.std.specs.Prelude.{Option, Some, None, if◌then◌else◌, string_bytes, encode_utf8}
-use Rattle.std.specs.Prelude.{MatchBool}
-use Rattle.std.specs.List.{list_all}
-use Rattle.expr_reader.specs.Letters.{is_blank, is_name_letter, begins_name, is_key_letter}
-use Rattle.expr_reader.specs.Letters.{is_special}
-use Rattle.expr_reader.specs.Tree.{ByteList, ArgTree, word_tree}
+-- An expression as far as it is read (own).
+use Rattle.std.specs.Prelude.{◌≡◌, ℕ, ◌+◌, max, List, [], ◌∷◌, ◌++◌, Bool, true, false, ◌||◌}
+use Rattle.std.specs.Prelude.{nat_lt, length, Option, Some, None, MatchBool}
+use Rattle.expr_reader.specs.Tree.{ByteList, CallTree, call, ArgTree, renamed, trees_of, word_tree}
+use Rattle.expr_reader.specs.Tree.{call_arg_tree, level_limit, call_limit}
+use Rattle.expr_reader.specs.Views.{inner_tree}
 use Rattle.expr_reader.specs.declared.machine.Place.{Place}
-use Rattle.expr_reader.specs.declared.machine.Place.TheVariants.{Start, Name, AfterName, Open}
-use Rattle.expr_reader.specs.declared.machine.Place.TheVariants.{Before, Bare, Quote, Escape}
-use Rattle.expr_reader.specs.declared.machine.Place.TheVariants.{AfterQuote, Close}
+use Rattle.expr_reader.specs.declared.machine.Place.TheVariants.{Start, Open, Before, Bare, Quote}
+use Rattle.expr_reader.specs.declared.machine.Place.TheVariants.{Escape, AfterCall, Close}
 use Rattle.expr_reader.specs.declared.machine.Reading.{Reading}
+use Rattle.expr_reader.specs.declared.open_calls.OpenCall.{OpenCall}
 
--- what is read so far
+-- what is read so far: of the innermost open call the name, the whole arguments, and of the next
+-- one the key, the text and the call; the calls round it; and how many calls were begun, and how
+-- many were open at once
 pub record Machine : Type 0 where
   pub place : Place
   pub name : ByteList
@@ -20,92 +20,109 @@ pub record Machine : Type 0 where
   pub key : Option ByteList
   pub text : ByteList
   pub blanks : ByteList
+  pub inner : Option CallTree
+  pub outer : List OpenCall
+  pub begun : ℕ
+  pub deepest : ℕ
 
 -- what a reading of the code has read
 abbrev pub machine : Reading → Machine
 machine r = record {
   place = r.place;
-  name = string_bytes r.name;
+  name = r.name;
   args = r.args;
   key = r.key;
   text = r.text.0;
   blanks = r.text.1;
+  inner = inner_tree r.inner;
+  outer = r.outer;
+  begun = r.begun;
+  deepest = r.deepest;
 }
 
 -- nothing is read
 abbrev pub start : Machine
-start = record { place = Start; name = []; args = []; key = None; text = []; blanks = [] }
-
--- the word that was read is an argument
-abbrev pub end_word : Bool → Place → Machine → Machine
-end_word quoted next m = record m {
-  place = next;
-  args = m.args ++ word_tree m.key m.text quoted ∷ [];
+start = record {
+  place = Start;
+  name = [];
+  args = [];
   key = None;
   text = [];
   blanks = [];
+  inner = None;
+  outer = [];
+  begun = 0;
+  deepest = 0;
 }
 
--- a character with which a word begins
-abbrev pub begin_word : Machine → ℕ → Option Machine
-begin_word m c =
-    if c == 34 then Some (record m { place = Quote; text = []; blanks = [] })
-    else (if is_special c then None
-    else Some (record m { place = Bare; text = encode_utf8 c; blanks = [] }))
+-- more calls were begun, or open at once, than may be
+abbrev pub is_over : Machine → Bool
+is_over m = nat_lt level_limit m.deepest || nat_lt call_limit m.begun
 
--- an equals sign behind bare text
-abbrev pub end_key : Machine → Option Machine
-end_key m =
-    if is_none m.key && list_all is_key_letter m.text
-    then Some (record m { place = Before; key = Some m.text; text = []; blanks = [] }) else None
+-- the text goes on
+abbrev pub grow : ByteList → Machine → Machine
+grow more m = record m { text = (m.text ++ m.blanks) ++ more; blanks = [] }
 
--- a character behind or in bare text
-abbrev pub bare_step : Machine → ℕ → Option Machine
-bare_step m c =
-    if is_blank c then Some (record m { blanks = m.blanks ++ encode_utf8 c })
-    else (if c == 44 then Some (end_word false Before m)
-    else (if c == 41 then Some (end_word false Close m)
-    else (if c == 61 then end_key m
-    else (if is_special c then None
-    else Some (record m { text = (m.text ++ m.blanks) ++ encode_utf8 c; blanks = [] })))))
+-- the text is the name of a call that opens
+abbrev pub open_call : Machine → Machine
+open_call m = record m {
+  place = Open;
+  name = m.text;
+  args = [];
+  key = None;
+  text = [];
+  blanks = [];
+  outer = record { name = m.name; args = m.args; key = m.key } ∷ m.outer;
+  begun = m.begun + 1;
+  deepest = max m.deepest (length m.outer + 1);
+}
 
--- one more character at a place; none where no expression goes on so
-abbrev pub step_at : Place → Machine → ℕ → Option Machine
-step_at Start m c =
-    if is_blank c then Some m
-    else (if begins_name c then Some (record m { place = Name; name = encode_utf8 c }) else None)
-step_at Name m c =
-    if is_name_letter c then Some (record m { name = m.name ++ encode_utf8 c })
-    else (if is_blank c then Some (record m { place = AfterName })
-    else (if c == 40 then Some (record m { place = Open }) else None))
-step_at AfterName m c =
-    if is_blank c then Some m else (if c == 40 then Some (record m { place = Open }) else None)
-step_at Open m c =
-    if is_blank c then Some m
-    else (if c == 41 then Some (record m { place = Close }) else begin_word m c)
-step_at Before m c = if is_blank c then Some m else begin_word m c
-step_at Bare m c = bare_step m c
-step_at Quote m c =
-    if c == 34 then Some (record m { place = AfterQuote })
-    else (if c == 92 then Some (record m { place = Escape })
-    else Some (record m { text = (m.text ++ m.blanks) ++ encode_utf8 c; blanks = [] }))
-step_at Escape m c =
-    if c == 34
-    then Some (record m { place = Quote; text = (m.text ++ m.blanks) ++ 34 ∷ []; blanks = [] })
-    else Some (record m {
-      place = Quote;
-      text = ((m.text ++ m.blanks) ++ 92 ∷ []) ++ encode_utf8 c;
-      blanks = [];
-    })
-step_at AfterQuote m c =
-    if is_blank c then Some m
-    else (if c == 44 then Some (end_word true Before m)
-    else (if c == 41 then Some (end_word true Close m) else None))
-step_at Close m c = if is_blank c then Some m else None
+-- the place behind a call that stands in these
+abbrev pub behind_call : List OpenCall → Place
+behind_call [] = Close
+behind_call (o ∷ outer) = AfterCall
 
--- one more character; none where no expression goes on so
-abbrev pub step : Machine → ℕ → Option Machine
-step m c = step_at m.place m c
+-- the innermost call is closed, if one is open
+abbrev pub close_in : List OpenCall → Machine → Machine
+close_in [] m = m
+close_in (o ∷ outer) m = record m {
+  place = behind_call outer;
+  name = o.name;
+  args = o.args;
+  key = o.key;
+  inner = Some (call m.name (trees_of m.args));
+  outer = outer;
+}
+
+-- the innermost call is closed
+abbrev pub close : Machine → Machine
+close m = close_in m.outer m
+
+-- one more argument
+abbrev pub add_arg : ArgTree → Machine → Machine
+add_arg a m = record m { args = m.args ++ a ∷ []; key = None; text = []; blanks = [] }
+
+-- the word that was read is an argument
+abbrev pub end_word : Bool → Machine → Machine
+end_word quoted m = add_arg (word_tree m.key m.text quoted) m
+
+-- the call that was read is an argument
+abbrev pub end_call_of : Option CallTree → Machine → Machine
+end_call_of None m = m
+end_call_of (Some c) m = record (add_arg (call_arg_tree m.key c) m) { inner = None }
+
+-- the call that was read is an argument
+abbrev pub end_call : Machine → Machine
+end_call m = end_call_of m.inner m
+
+-- the call that was read is an argument under the name that was read
+abbrev pub end_renamed_of : Option CallTree → Machine → Machine
+end_renamed_of None m = m
+end_renamed_of (Some c) m = record (add_arg (renamed c m.text) m) { inner = None }
+
+-- the call that was read is an argument under the name that was read
+abbrev pub end_renamed : Machine → Machine
+end_renamed m = end_renamed_of m.inner m
 
 -- what a step of the code answers: it went on, or the reading is as it was
 abbrev pub Moves : Machine → Option Machine → Bool → Machine → Type 0
@@ -115,11 +132,6 @@ Moves old stepped live new = MatchBool live (stepped ≡ Some new) ((stepped ≡
 abbrev pub is_close : Place → Bool
 is_close Close = true
 is_close _ = false
-
--- bare text is being read
-abbrev pub is_bare : Place → Bool
-is_bare Bare = true
-is_bare _ = false
 
 -- a character past ASCII may come next
 abbrev pub takes_wide : Place → Bool

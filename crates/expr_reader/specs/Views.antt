@@ -1,5 +1,5 @@
 -- The trees that the program's calls and arguments stand for.
-use Rattle.std.specs.Prelude.{List, map}
+use Rattle.std.specs.Prelude.{List, map, Option, Some, None}
 use Rattle.expr_reader.specs.Tree.{ByteList, CallTree, call, ArgTree, plain, named, named_call, sub}
 use Rattle.expr_reader.specs.Tree.{renamed, trees_of}
 use Rattle.expr_reader.specs.declared.call.Call.{Call}
@@ -27,3 +27,8 @@ arg_tree (Renamed c to) = renamed (call_tree c) to
 -- what a list of arguments is
 abbrev pub arg_trees : List Arg → List ArgTree
 arg_trees args = map arg_tree args
+
+-- the call that there may be
+abbrev pub inner_tree : Option Call → Option CallTree
+inner_tree None = None
+inner_tree (Some c) = Some (call_tree c)

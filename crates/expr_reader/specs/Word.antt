@@ -10,6 +10,11 @@ use Rattle.expr_reader.specs.Tree.{ByteList}
 abbrev pub AreBlank : List ℕ → Type 0
 AreBlank = AllByRecursion (λ c. is_blank c ≡ true)
 
+-- blanks alone, one or more
+abbrev pub IsGap : List ℕ → Type 0
+IsGap [] = ⊥
+IsGap (c ∷ cs) = AreBlank (c ∷ cs)
+
 -- one or more name letters, the first no digit
 abbrev pub IsName : List ℕ → Type 0
 IsName [] = ⊥
@@ -63,7 +68,7 @@ IsInside (letter c more) = ((c == 34) ≡ false) × ((c == 92) ≡ false) × IsI
 IsInside (escaped_quote more) = IsInside more
 IsInside (kept_backslash c more) = ((c == 34) ≡ false) × IsInside more
 
--- a word as it stands in an expression; an inner call will be one more form of argument and value
+-- a word as it stands in an expression
 pub data Writing : Type 0 where
   bare : List ℕ → Writing
   quoted : Inside → Writing

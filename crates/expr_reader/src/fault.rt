@@ -9,15 +9,13 @@ use tuple_values::{Memory, Text};
 /// Why bytes aren't read as an expression. A place counts bytes from 0.
 #[derive(Clone, Copy, Debug, PartialEq, Eq, Error)]
 pub enum ExprFault {
+    /// There are more than 65,536 bytes, or the longest front with which some expression begins
+    /// has 25 calls open at some place, or 201 calls in all.
+    #[error("TooLarge")]
+    TooLarge,
     /// The bytes are no expression. No expression begins with more of them than those before `at`.
     #[error("Syntax at {at}")]
     Syntax { at: u64 },
-    /// There are more than 65,536 bytes.
-    #[error("TooLarge")]
-    TooLarge,
-    /// The bytes are no expression yet: a call begins inside a call, by the parenthesis at `at`.
-    #[error("NotYet {at}")]
-    NotYet { at: u64 },
     /// An allocation was refused.
     #[error("out of memory")]
     OutOfMemory,
@@ -39,9 +37,8 @@ impl ExprFault {
         ensures { IfOk result (λ text. text ≡ fault_text self.now) }
     {
         let text = match self {
-            ExprFault::Syntax { at } => format!(in alloc; "Syntax at {at}")?,
             ExprFault::TooLarge => String::from_str(alloc, "TooLarge")?,
-            ExprFault::NotYet { at } => format!(in alloc; "NotYet {at}")?,
+            ExprFault::Syntax { at } => format!(in alloc; "Syntax at {at}")?,
             ExprFault::OutOfMemory => String::from_str(alloc, "out of memory")?,
         };
         Ok(Text::from_string(text))

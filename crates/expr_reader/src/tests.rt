@@ -18,38 +18,44 @@ fn push_word(out: &mut String, word: &Word) -> Result<(), AllocError> {
     out.push_str(close)
 }
 
+#[cycle(showing)]
 fn push_arg(out: &mut String, arg: &Arg) -> Result<(), AllocError> {
     match arg {
-        Arg::Plain(word) => push_word(out, word)?,
+        Arg::Plain(word) => push_word(out, word),
         Arg::Named { key, value } => {
             out.push_str(key.as_str())?;
             out.push_str("=")?;
             match value {
-                ArgValue::Plain(word) => push_word(out, word)?,
-                ArgValue::Sub(call) => out.push_str(call.name.as_str())?,
+                ArgValue::Plain(word) => push_word(out, word),
+                ArgValue::Sub(call) => push_call(out, call),
             }
         }
-        Arg::Sub(call) => out.push_str(call.name.as_str())?,
+        Arg::Sub(call) => push_call(out, call),
         Arg::Renamed { call, to } => {
-            out.push_str(call.name.as_str())?;
+            push_call(out, call)?;
             out.push_str(" as ")?;
-            out.push_str(to.as_str())?;
+            out.push_str(to.as_str())
         }
     }
-    Ok(())
 }
 
 // A call as a row of a table writes it: its name, and its arguments in brackets.
-fn shown_call(alloc: Global, call: &Call) -> Result<String, AllocError> {
-    let mut out = String::from_str(alloc, call.name.as_str())?;
+#[cycle(showing)]
+fn push_call(out: &mut String, call: &Call) -> Result<(), AllocError> {
+    out.push_str(call.name.as_str())?;
     out.push_str("[")?;
     for k in 0..call.args.count() {
         if k > 0 {
             out.push_str(",")?;
         }
-        push_arg(&mut out, call.args.get(k))?;
+        push_arg(out, call.args.get(k))?;
     }
-    out.push_str("]")?;
+    out.push_str("]")
+}
+
+fn shown_call(alloc: Global, call: &Call) -> Result<String, AllocError> {
+    let mut out = String::new(alloc);
+    push_call(&mut out, call)?;
     Ok(out)
 }
 
@@ -61,7 +67,7 @@ fn shown(alloc: Global, bytes: &[u8]) -> Result<String, Fail> {
     }
 }
 
-const CALLS: [(&str, &str); 17] = [
+const CALLS: [(&str, &str); 29] = [
     ("tuple(a=1,b=\"x\")", "tuple[a=<1>,b=\"x\"]"),
     ("tuple()", "tuple[]"),
     ("tuple( )", "tuple[]"),
@@ -80,9 +86,26 @@ const CALLS: [(&str, &str); 17] = [
     ("f(1=2,1)", "f[1=<2>,<1>]"),
     ("f(k=\"a,(=)\")", "f[k=\"a,(=)\"]"),
     ("f(é, \"é\")", "f[<é>,\"é\"]"),
+    // calls in calls, as arguments and as values
+    ("f(g())", "f[g[]]"),
+    (" f ( g ( a ) , h( ) ) ", "f[g[<a>],h[]]"),
+    ("f(g(h(i(1),2),k=3))", "f[g[h[i[<1>],<2>],k=<3>]]"),
+    ("f(k=g(a),b)", "f[k=g[<a>],<b>]"),
+    ("f(k = g\t( a ) )", "f[k=g[<a>]]"),
+    ("f(g(\"(\"),h(\"\\\")\"))", "f[g[\"(\"],h[\"\")\"]]"),
+    // calls under a new name
+    ("f(g(a) as b)", "f[g[<a>] as b]"),
+    ("f(g(a)\tas\n b_1 ,c)", "f[g[<a>] as b_1,<c>]"),
+    ("f(g(a as b) as c)", "f[g[<a as b>] as c]"),
+    ("f(as(as) as as)", "f[as[<as>] as as]"),
+    (
+        "f(g(h() as a) as b,k=g(h() as c))",
+        "f[g[h[] as a] as b,k=g[h[] as c]]",
+    ),
+    ("count(count(*) as n)", "count[count[<*>] as n]"),
 ];
 
-const FAULTS: [(&str, &str); 37] = [
+const FAULTS: [(&str, &str); 57] = [
     ("", "Syntax at 0"),
     ("  ", "Syntax at 2"),
     ("f", "Syntax at 1"),
@@ -108,20 +131,42 @@ const FAULTS: [(&str, &str); 37] = [
     ("f(a)x", "Syntax at 4"),
     ("f(a))", "Syntax at 4"),
     // a parenthesis behind a bare name begins a call, and behind nothing else
-    ("tuple(sum(", "NotYet 9"),
-    ("tuple(sum(a) as b)", "NotYet 9"),
-    ("tuple(x,sum \t(a))", "NotYet 13"),
-    ("tuple(a=b (c))", "NotYet 10"),
     ("f(1x(", "Syntax at 4"),
     ("f(a=1x(", "Syntax at 6"),
     ("f(a b(", "Syntax at 5"),
     ("f(\"sum\"(", "Syntax at 7"),
     ("f((", "Syntax at 2"),
+    ("f(g(h(1x(", "Syntax at 8"),
+    ("f(g(a)(b))", "Syntax at 6"),
+    // in calls and behind them
+    ("tuple(sum(", "Syntax at 10"),
+    ("f(g(a", "Syntax at 5"),
+    ("f(g(a)", "Syntax at 6"),
+    ("f(g(,a))", "Syntax at 4"),
+    ("f(g(a),)", "Syntax at 7"),
+    ("f(g(a)=1)", "Syntax at 6"),
+    ("f(g(a) b)", "Syntax at 7"),
+    ("f(a=g(b=c=d))", "Syntax at 9"),
+    ("f(g(a)))", "Syntax at 7"),
+    // new names
+    ("f(g(a)as b)", "Syntax at 6"),
+    ("f(g(a) a b)", "Syntax at 8"),
+    ("f(g(a) AS b)", "Syntax at 7"),
+    ("f(g(a) as)", "Syntax at 9"),
+    ("f(g(a) as 1)", "Syntax at 10"),
+    ("f(g(a) as b", "Syntax at 11"),
+    ("f(g(a) as b=1)", "Syntax at 11"),
+    ("f(g(a) as b c)", "Syntax at 12"),
+    ("f(k=g(a) as b)", "Syntax at 9"),
+    ("f(g(a)) as b", "Syntax at 8"),
     // characters past ASCII where only ASCII can stand
     ("fé()", "Syntax at 1"),
     ("f(é=1)", "Syntax at 4"),
     ("f(a)é", "Syntax at 4"),
     ("\u{FEFF}f()", "Syntax at 0"),
+    ("f(g(a) é)", "Syntax at 7"),
+    ("f(g(a) as bé)", "Syntax at 11"),
+    ("f(g(é))é", "Syntax at 8"),
 ];
 
 // Each text is read as its row says.
@@ -195,11 +240,121 @@ fn an_expression_has_at_most_65536_bytes(rt: HostRuntime) -> Result<(), Fail> {
     let alloc = rt.alloc();
     assert_eq!(rt; shown(alloc, &padded(alloc, 65_536)?)?.as_str(), "f[]");
     assert_eq!(rt; shown(alloc, &padded(alloc, 65_537)?)?.as_str(), "TooLarge");
+    assert_built(&rt, alloc, &[(")", 65_536)], &[("Syntax at 0", 1)])?;
+    assert_built(&rt, alloc, &[(")", 65_537)], &[("TooLarge", 1)])?;
     assert_eq!(rt;
         ExprFault::OutOfMemory.text(alloc)?.as_str(),
         "out of memory"
     );
     Ok(())
+}
+
+// Texts one after another, each so many times.
+fn built(alloc: Global, parts: &[(&'static str, u64)]) -> Result<String, AllocError> {
+    let mut out = String::new(alloc);
+    for (part, times) in parts {
+        for _ in 0..*times {
+            out.push_str(part)?;
+        }
+    }
+    Ok(out)
+}
+
+// What is built of the first parts is read as what is built of the others.
+fn assert_built(
+    rt: &impl Abort,
+    alloc: Global,
+    parts: &[(&'static str, u64)],
+    wanted: &[(&'static str, u64)],
+) -> Result<(), Fail> {
+    let text = built(alloc, parts)?;
+    let want = built(alloc, wanted)?;
+    assert_eq!(rt; shown(alloc, text.as_bytes())?.as_str(), want.as_str());
+    Ok(())
+}
+
+#[test]
+fn at_most_24_calls_stand_one_in_another(rt: HostRuntime) -> Result<(), Fail> {
+    let alloc = rt.alloc();
+    assert_built(
+        &rt,
+        alloc,
+        &[("f(", 24), (")", 24)],
+        &[("f[", 24), ("]", 24)],
+    )?;
+    assert_built(
+        &rt,
+        alloc,
+        &[("f(", 23), ("g(),k=h() ", 1), (")", 23)],
+        &[("f[", 23), ("g[],k=h[]", 1), ("]", 23)],
+    )?;
+    assert_built(&rt, alloc, &[("f(", 25), (")", 25)], &[("TooLarge", 1)])?;
+    assert_built(&rt, alloc, &[("f(k=", 24), ("g( )", 1)], &[("TooLarge", 1)])?;
+
+    // a call begins with its parenthesis, where one can begin
+    assert_built(
+        &rt,
+        alloc,
+        &[("f(", 24), ("tuple", 1)],
+        &[("Syntax at 53", 1)],
+    )?;
+    assert_built(&rt, alloc, &[("f(", 24), ("tuple(", 1)], &[("TooLarge", 1)])?;
+    assert_built(
+        &rt,
+        alloc,
+        &[("f(", 24), ("1x(", 1)],
+        &[("Syntax at 50", 1)],
+    )?;
+
+    // a fault before it comes first, and one behind it doesn't
+    assert_built(
+        &rt,
+        alloc,
+        &[("f(", 24), (",f(", 1)],
+        &[("Syntax at 48", 1)],
+    )?;
+    assert_built(&rt, alloc, &[("f(", 25), ("==", 1)], &[("TooLarge", 1)])
+}
+
+#[test]
+fn at_most_200_calls_stand_in_an_expression(rt: HostRuntime) -> Result<(), Fail> {
+    let alloc = rt.alloc();
+    assert_built(
+        &rt,
+        alloc,
+        &[("f(", 1), ("g(),", 198), ("g() as h)", 1)],
+        &[("f[", 1), ("g[],", 198), ("g[] as h]", 1)],
+    )?;
+    assert_built(
+        &rt,
+        alloc,
+        &[("f(", 1), ("g(),", 199), ("g())", 1)],
+        &[("TooLarge", 1)],
+    )?;
+    assert_built(
+        &rt,
+        alloc,
+        &[("f(", 1), ("g(),", 199)],
+        &[("Syntax at 798", 1)],
+    )?;
+    assert_built(
+        &rt,
+        alloc,
+        &[("f(", 1), ("g(),", 199), ("g(", 1)],
+        &[("TooLarge", 1)],
+    )?;
+    assert_built(
+        &rt,
+        alloc,
+        &[("f(", 1), ("g(),", 199), ("1x(", 1)],
+        &[("Syntax at 800", 1)],
+    )?;
+    assert_built(
+        &rt,
+        alloc,
+        &[("f(", 1), ("g(),", 199), ("=g(", 1)],
+        &[("Syntax at 798", 1)],
+    )
 }
 
 fn call_of(alloc: Global, name: &str) -> Result<Call, Fail> {
@@ -222,6 +377,6 @@ fn calls_in_calls_can_be_made(rt: HostRuntime) -> Result<(), Fail> {
         call: call_of(alloc, "r")?,
         to: Text::of(alloc, "x")?,
     })?;
-    assert_eq!(rt; shown_call(alloc, &call)?.as_str(), "f[g,k=h,r as x]");
+    assert_eq!(rt; shown_call(alloc, &call)?.as_str(), "f[g[],k=h[],r[] as x]");
     Ok(())
 }
