@@ -8,3 +8,7 @@ pub mod Functions
 pub mod Shapes
 pub mod Walk
 pub mod Sources
+pub mod Orders
+pub mod Conditions
+pub mod Rows
+pub mod Groups

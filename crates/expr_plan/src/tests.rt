@@ -1,10 +1,10 @@
 // What no clause can say: that the definitions mean what the rules say, and that each call that
 // takes memory succeeds.
 use crate::{Expr, PlanFault, plan};
-use expr_reader::{Arg, Args, Call, read_expr};
+use expr_reader::read_expr;
 use std::alloc::Global;
 use std::test::Fail;
-use tuple_values::{Memory, Text, Value};
+use tuple_values::{Text, Value};
 
 // What a reply says of the first fault, and `read` where there is none.
 fn told(alloc: Global, expression: &str) -> Result<Text, Fail> {
@@ -15,7 +15,7 @@ fn told(alloc: Global, expression: &str) -> Result<Text, Fail> {
     }
 }
 
-const FAULTS: [(&str, &str); 30] = [
+const FAULTS: [(&str, &str); 42] = [
     ("foo(a=1)", "UnknownFunction foo"),
     ("Search(c)", "UnknownFunction Search"),
     ("tuple()", "read"),
@@ -67,6 +67,22 @@ const FAULTS: [(&str, &str); 30] = [
     ("search(c,rows=9223372036854775808)", "BadParam search rows"),
     ("search(c,rows=\"5\",q=\"\")", "BadQuery at 0"),
     ("search(c,rows= 1.0)", "BadParam search rows"),
+    // calls in calls: inputs, values and what has a new name
+    ("foo(bar())", "UnknownFunction foo"),
+    ("search(tuple(),c)", "WrongInputs search 1"),
+    (
+        "search(bar(),tuple(a=foo()),rows=-1)",
+        "WrongInputs search 2",
+    ),
+    ("tuple(sum(a))", "WrongInputs tuple 1"),
+    ("tuple(a=1,a=2,f(g(h())),i())", "WrongInputs tuple 2"),
+    ("tuple(a=sum(b))", "BadParam tuple a"),
+    ("tuple(a=1,a=sum(b))", "BadParam tuple a"),
+    ("tuple(sum(a) as b)", "BadParam tuple operand"),
+    ("tuple(sum(a) as b,a=1,a=2)", "BadParam tuple operand"),
+    ("search(c,q=f(x))", "BadParam search q"),
+    ("search(c,fq=f(x))", "BadParam search fq"),
+    ("search(c,qt=f(x),qt=g(x))", "BadParam search qt"),
 ];
 
 #[test]
@@ -108,7 +124,7 @@ fn is_the_search(expr: &Expr) -> bool {
 fn a_search_keeps_its_parameters(rt: HostRuntime) -> Result<(), Fail> {
     let alloc = rt.alloc();
     let text = "search(c,rows=007,partitionKeys=\" g_s \",sort=\"g_s desc, id asc\",q=\"*:*\",\
-        fl=\"id,g_s,id\",qt=\"/export\")";
+        fl=\"id,g_s,id\",qt=export(a,b() as c))";
     let call = read_expr(alloc, text.as_bytes())?;
     let expr = plan(alloc, &call)?;
     assert!(rt; is_the_search(&expr));
@@ -131,29 +147,5 @@ fn a_tuple_holds_its_literals(rt: HostRuntime) -> Result<(), Fail> {
     let call = read_expr(alloc, b"tuple(b=\"7\",c=7.5,a=-7)")?;
     let expr = plan(alloc, &call)?;
     assert!(rt; is_the_tuple(&expr));
-    Ok(())
-}
-
-// A call of a name over one input.
-fn over_an_input(alloc: Global, name: &str) -> Result<Call, Memory> {
-    let input = Call {
-        name: Text::of(alloc, "tuple")?,
-        args: Args::new(alloc),
-    };
-    let mut args = Args::new(alloc);
-    args.push(Arg::Sub(input))?;
-    let name = Text::of(alloc, name)?;
-    Ok(Call { name, args })
-}
-
-#[test]
-fn a_source_takes_no_input(rt: HostRuntime) -> Result<(), Fail> {
-    let alloc = rt.alloc();
-    let call = over_an_input(alloc, "search")?;
-    let Err(fault) = plan(alloc, &call) else {
-        return Err(Fail::from("an input was taken"));
-    };
-    let text = fault.text(alloc)?;
-    assert_eq!(rt; text.as_str(), "WrongInputs search 1");
     Ok(())
 }
