@@ -1,0 +1,4 @@
+pub mod MergeState
+pub mod Slots
+pub mod SortState
+pub mod TopState

@@ -1,0 +1,14 @@
+//! The kernels of sort, top and merge.
+#![tactic(auto)]
+
+mod merge;
+mod merge_state;
+mod sort;
+mod sorted;
+#[cfg(test)]
+mod tests;
+mod top;
+
+pub use merge_state::MergeKernel;
+pub use sort::SortKernel;
+pub use top::TopKernel;
