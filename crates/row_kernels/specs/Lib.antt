@@ -1,0 +1,3 @@
+pub mod HavingState
+pub mod Joining
+pub mod SelectState

@@ -1,0 +1,13 @@
+//! The kernels of having and select.
+#![tactic(auto)]
+
+mod having;
+mod joining;
+mod select;
+mod selecting;
+mod testing;
+#[cfg(test)]
+mod tests;
+
+pub use having::HavingKernel;
+pub use select::SelectKernel;

@@ -1,0 +1,101 @@
+// Tuples made of the fields of others.
+ghost use Rattle.std.specs.Prelude.{◌≡◌, List, [], ◌∷◌, true, false, length, IfOk};
+ghost use Rattle.tuple_values.specs.Document.{Doc};
+ghost use Rattle.expr_plan.specs.Rows.{select_list};
+ghost use Rattle.row_kernels.specs.SelectState as select;
+
+use crate::selecting::selected;
+use expr_plan::Items;
+use kernel_laws::{Ask, Kernel};
+use std::alloc::Global;
+use tuple_values::{Memory, TryCopy, Tuple};
+
+/// Makes one tuple of each tuple of its input.
+#[derive(Debug, Drop)]
+pub struct SelectKernel {
+    alloc: Global,
+    items: Items,
+    held: Option<Tuple>,
+    ended: bool,
+    failed: bool,
+}
+
+impl SelectKernel {
+    /// Makes tuples by these items: first the fields are chosen, then the other items change the
+    /// tuple in their order.
+    pub fn make(alloc: Global, items: &Items) -> Result<SelectKernel, Memory>
+        ensures ready { IfOk result (λ k. (docs : List Doc) → select.ready k (docs ∷ [])) }
+        ensures out { IfOk result (λ k. (docs : List Doc)
+            → select.out k (docs ∷ []) ≡ select_list items.now docs) }
+        ensures width { IfOk result (λ k. length (select.ended k) ≡ 1) }
+        ensures lives { IfOk result (λ k. select.failed k ≡ false) }
+    {
+        let items = items.copy(alloc)?;
+        Ok(SelectKernel {
+            alloc,
+            items,
+            held: None,
+            ended: false,
+            failed: false,
+        })
+    }
+}
+
+impl Kernel for SelectKernel {
+    ghost ended = { select.ended };
+
+    ghost waits = { select.waits };
+
+    ghost ready = { select.ready };
+
+    ghost out = { select.out };
+
+    ghost over = { select.over };
+
+    ghost failed = { select.failed };
+
+    ghost lean = { true };
+
+    fn inputs(&self) -> u32 {
+        1
+    }
+
+    fn ask(&mut self) -> Result<Ask, Memory> {
+        if self.failed {
+            return Err(Memory::OutOfMemory);
+        }
+        match self.held.take() {
+            Some(tuple) => Ok(Ask::Emit(tuple)),
+            None => {
+                if self.ended {
+                    Ok(Ask::End)
+                } else {
+                    Ok(Ask::Need(0))
+                }
+            }
+        }
+    }
+
+    #[tactic(auto, using(kernel_laws::proofs::RestLemmas::rest_steps))]
+    fn feed(&mut self, _input: u32, tuple: Option<Tuple>) -> Result<(), Memory> {
+        if self.failed {
+            return Err(Memory::OutOfMemory);
+        }
+        match tuple {
+            Some(tuple) => match selected(self.alloc, self.items.as_slice(), &tuple) {
+                Ok(made) => {
+                    self.held = Some(made);
+                    Ok(())
+                }
+                Err(fault) => {
+                    self.failed = true;
+                    Err(fault)
+                }
+            },
+            None => {
+                self.ended = true;
+                Ok(())
+            }
+        }
+    }
+}

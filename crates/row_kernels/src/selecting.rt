@@ -1,0 +1,128 @@
+// What items make of a tuple.
+ghost use Rattle.std.specs.Prelude.{◌≡◌, [], IfOk, fold, option_map, if◌then◌else◌};
+ghost use Rattle.std.specs.List.{cons_option, filter_map};
+ghost use Rattle.std.specs.Option.{option_cmp};
+ghost use Rattle.std.specs.Ordering.{is_eq};
+ghost use Rattle.tuple_values.specs.Document.{value_at, over};
+ghost use Rattle.tuple_values.specs.Order.{datum_cmp};
+ghost use Rattle.tuple_values.specs.Views.{datum_of};
+ghost use Rattle.expr_plan.specs.Rows.{chosen, with_value, with_text, changed, selected};
+
+use crate::joining::joined;
+use expr_plan::Item;
+use std::alloc::Global;
+use tuple_values::{Memory, Text, TryCopy, Tuple, Value, compare};
+
+/// What the items make of a tuple.
+pub(crate) fn selected(alloc: Global, items: &[Item], tuple: &Tuple) -> Result<Tuple, Memory>
+    ensures { IfOk result (λ made. made ≡ selected items.now tuple.now) }
+{
+    let made = all_chosen(alloc, items, tuple)?;
+    let changed = all_changed(alloc, made, items)?;
+    Ok(changed)
+}
+
+// The chosen fields under their new names.
+#[tactic(auto, using(crate::proofs::SelectLemmas::select_steps))]
+fn all_chosen(alloc: Global, items: &[Item], tuple: &Tuple) -> Result<Tuple, Memory>
+    ensures { IfOk result (λ made. made ≡ over [] (filter_map (chosen tuple.now) items.now)) }
+{
+    let mut made = Tuple::empty(alloc);
+    for item in items {
+        made = with_chosen(alloc, made, item, tuple)?;
+    }
+    Ok(made)
+}
+
+// The tuple with the field that an item chooses of another, if it does.
+fn with_chosen(alloc: Global, made: Tuple, item: &Item, tuple: &Tuple) -> Result<Tuple, Memory>
+    ensures { IfOk result (λ more. more ≡ over made (cons_option (chosen tuple.now item.now) [])) }
+{
+    let Item::Field { name, to } = item else {
+        return Ok(made);
+    };
+    let Some(value) = tuple.get(name.as_str()) else {
+        return Ok(made);
+    };
+    let mut made = made;
+    made.put(to.copy(alloc)?, value.copy(alloc)?)?;
+    Ok(made)
+}
+
+// The tuple after all replaces and concats.
+fn all_changed(alloc: Global, tuple: Tuple, items: &[Item]) -> Result<Tuple, Memory>
+    ensures { IfOk result (λ after. after ≡ fold changed tuple items.now) }
+{
+    let mut after = tuple;
+    for item in items {
+        after = changed(alloc, after, item)?;
+    }
+    Ok(after)
+}
+
+// The tuple after an item that is a replace or a concat.
+fn changed(alloc: Global, tuple: Tuple, item: &Item) -> Result<Tuple, Memory>
+    ensures { IfOk result (λ after. after ≡ changed tuple item.now) }
+{
+    match item {
+        Item::Field { .. } => Ok(tuple),
+        Item::Replace { field, old, new } => replaced(alloc, tuple, field, old, new),
+        Item::Concat {
+            fields,
+            into,
+            delim,
+        } => {
+            let text = joined(alloc, fields, delim, &tuple)?;
+            with_text(alloc, tuple, into, text)
+        }
+    }
+}
+
+fn replaced(
+    alloc: Global,
+    tuple: Tuple,
+    field: &Text,
+    old: &Option<Value>,
+    new: &Option<Value>,
+) -> Result<Tuple, Memory>
+    ensures { IfOk result (λ after. after ≡ (if is_eq (option_cmp datum_cmp
+        (value_at field.now tuple) (option_map datum_of old.now))
+        then with_value field.now (option_map datum_of new.now) tuple else tuple)) }
+{
+    if compare(tuple.get(field.as_str()), old.as_ref()).is_ne() {
+        return Ok(tuple);
+    }
+    with_value(alloc, tuple, field, new)
+}
+
+// The tuple with the value under the name, or without the field where there is none.
+fn with_value(
+    alloc: Global,
+    tuple: Tuple,
+    name: &Text,
+    value: &Option<Value>,
+) -> Result<Tuple, Memory>
+    ensures { IfOk result (λ after. after
+        ≡ with_value name.now (option_map datum_of value.now) tuple) }
+{
+    let mut tuple = tuple;
+    match value {
+        None => {
+            tuple.remove(name.as_str());
+        }
+        Some(value) => tuple.put(name.copy(alloc)?, value.copy(alloc)?)?,
+    }
+    Ok(tuple)
+}
+
+// The tuple with the text under the name, where there is one.
+fn with_text(alloc: Global, tuple: Tuple, name: &Text, text: Option<Text>) -> Result<Tuple, Memory>
+    ensures { IfOk result (λ after. after ≡ with_text name.now text tuple) }
+{
+    let Some(text) = text else {
+        return Ok(tuple);
+    };
+    let mut tuple = tuple;
+    tuple.put(name.copy(alloc)?, Value::Text(text))?;
+    Ok(tuple)
+}
