@@ -1,0 +1,4 @@
+pub mod NumberLemmas
+pub mod RunLemmas
+pub mod SpanLemmas
+pub mod WorkLemmas

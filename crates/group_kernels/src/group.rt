@@ -1,0 +1,153 @@
+// One tuple for each run of equal keys.
+ghost use Rattle.std.specs.Prelude.{◌≡◌, List, [], ◌∷◌, true, false, length, map, IfOk};
+ghost use Rattle.std.specs.Prelude.{option_to_list};
+ghost use Rattle.tuple_values.specs.Document.{Doc};
+ghost use Rattle.expr_plan.specs.Groups.{same_key, groups};
+ghost use Rattle.expr_plan.specs.Orders.{IsSortedOver};
+ghost use Rattle.group_kernels.specs.GroupState as group_state;
+ghost use Rattle.group_kernels.specs.Runs.{spans};
+ghost use Rattle.group_kernels.specs.Work.{worked};
+
+use crate::key::is_next;
+use crate::work::{Work, worked};
+use kernel_laws::{Ask, Kernel};
+use std::alloc::Global;
+use std::mem;
+use tuple_values::{FieldList, Memory, Tuple};
+
+/// Makes one tuple of all tuples of a key, on an input on which they follow one another. It keeps
+/// the tuples of one key at a time.
+#[derive(Debug, Drop)]
+pub(crate) struct GroupKernel {
+    alloc: Global,
+    names: FieldList,
+    work: Work,
+    run: Vec<Tuple>,
+    held: Option<Tuple>,
+    ended: bool,
+    failed: bool,
+}
+
+impl GroupKernel {
+    /// Works on each run of equal values in these fields.
+    #[tactic(auto, using(crate::proofs::SpanLemmas::make_steps))]
+    pub fn make(alloc: Global, names: FieldList, work: Work) -> GroupKernel
+        ensures ready { (docs : List Doc) → group_state.ready result (docs ∷ []) }
+        ensures out { (docs : List Doc) → IsSortedOver names docs
+            → group_state.out result (docs ∷ [])
+            ≡ map (worked names work) (groups (same_key names) docs) }
+        ensures width { length (group_state.ended result) ≡ 1 }
+        ensures lives { group_state.failed result ≡ false }
+    {
+        GroupKernel {
+            alloc,
+            names,
+            work,
+            run: Vec::new(alloc),
+            held: None,
+            ended: false,
+            failed: false,
+        }
+    }
+
+    // Keeps that memory was wanting.
+    fn fail(&mut self) -> Result<(), Memory>
+        ensures failed { self.new.failed ≡ true }
+        ensures err { result ≡ Err Memory.OutOfMemory }
+    {
+        self.failed = true;
+        Err(Memory::OutOfMemory)
+    }
+}
+
+impl Kernel for GroupKernel {
+    ghost ended = { group_state.ended };
+
+    ghost waits = { group_state.waits };
+
+    ghost ready = { group_state.ready };
+
+    ghost out = { group_state.out };
+
+    ghost over = { group_state.over };
+
+    ghost failed = { group_state.failed };
+
+    ghost lean = { true };
+
+    fn inputs(&self) -> u32 {
+        1
+    }
+
+    fn ask(&mut self) -> Result<Ask, Memory> {
+        if self.failed {
+            return Err(Memory::OutOfMemory);
+        }
+        match self.held.take() {
+            Some(tuple) => Ok(Ask::Emit(tuple)),
+            None => {
+                if self.ended {
+                    Ok(Ask::End)
+                } else {
+                    Ok(Ask::Need(0))
+                }
+            }
+        }
+    }
+
+    #[tactic(auto, using(crate::proofs::SpanLemmas::feed_steps))]
+    fn feed(&mut self, _input: u32, tuple: Option<Tuple>) -> Result<(), Memory> {
+        if self.failed {
+            return Err(Memory::OutOfMemory);
+        }
+        let Some(tuple) = tuple else {
+            let run = mem::replace(&mut self.run, Vec::new(self.alloc));
+            let Ok(last) = last_of(self.alloc, &self.names, &self.work, run) else {
+                return self.fail();
+            };
+            self.held = last;
+            self.ended = true;
+            return Ok(());
+        };
+        if is_next(&self.names, &self.run, &tuple) {
+            if self.run.push(tuple).is_err() {
+                return self.fail();
+            }
+            return Ok(());
+        }
+        let Ok(next) = one(self.alloc, tuple) else {
+            return self.fail();
+        };
+        let run = mem::replace(&mut self.run, next);
+        let Ok(made) = worked(self.alloc, &self.names, &self.work, run) else {
+            return self.fail();
+        };
+        self.held = Some(made);
+        Ok(())
+    }
+}
+
+// A run of one tuple.
+fn one(alloc: Global, tuple: Tuple) -> Result<Vec<Tuple>, Memory>
+    ensures { IfOk result (λ run. run.items ≡ tuple ∷ []) }
+{
+    let mut run = Vec::new(alloc);
+    run.push(tuple)?;
+    Ok(run)
+}
+
+// What is made of the last run, where there is one.
+fn last_of(
+    alloc: Global,
+    names: &FieldList,
+    work: &Work,
+    run: Vec<Tuple>,
+) -> Result<Option<Tuple>, Memory>
+    ensures { IfOk result (λ last. option_to_list last
+        ≡ map (worked names.now work.now) (spans (same_key names.now) run.items [])) }
+{
+    if run.is_empty() {
+        return Ok(None);
+    }
+    Ok(Some(worked(alloc, names, work, run)?))
+}

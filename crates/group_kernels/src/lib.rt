@@ -1,0 +1,17 @@
+//! The kernels of unique, reduce and rollup.
+#![tactic(auto)]
+
+mod group;
+mod key;
+mod metric;
+mod reduce;
+mod rolled;
+mod rollup;
+#[cfg(test)]
+mod tests;
+mod unique;
+mod work;
+
+pub use reduce::ReduceKernel;
+pub use rollup::RollupKernel;
+pub use unique::UniqueKernel;
