@@ -189,7 +189,7 @@ shown_all (h ∷ hs) =
     ∙ ap (λ x. h ∷ x) (shown_all hs)
 
 -- as many as there were are the logs that there were
-shown_old : (old new : List Log) → Grows old new → shown (counts old) new ≡ old
+pub shown_old : (old new : List Log) → Grows old new → shown (counts old) new ≡ old
 shown_old [] [] g = refl
 shown_old [] (k ∷ ks) g = absurd g
 shown_old (h ∷ hs) [] g = absurd g

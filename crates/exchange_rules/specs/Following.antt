@@ -47,6 +47,10 @@ pub record Writer : Type 0 where
   pub own : List OwnMark
   pub looks : List ℕ
 
+-- the writer with nothing in its record
+abbrev pub cleared : Writer → Writer
+cleared w = record w { marks = []; own = [] }
+
 -- how many entries of each cell there are
 abbrev pub counts : List Log → List ℕ
 counts logs = map length logs

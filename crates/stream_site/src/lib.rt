@@ -16,6 +16,7 @@ mod writes;
 pub use cut::take_cut_over;
 pub use exchange_rules::SiteFault;
 pub use index::{commit_all_over, index_over};
+pub use place::shards_of;
 pub use plain::PlainSite;
 pub use turns::Turns;
 pub use writes::are_storable_writes;

@@ -8,7 +8,7 @@ use crate::Turns;
 use tuple_values::{Names, Text};
 
 /// How many shards the collection has, and 0 where there is none of this name.
-pub(crate) fn shards_of(names: &Names, collection: &str) -> u16
+pub fn shards_of(names: &Names, collection: &str) -> u16
     ensures { result ≡ shards_of names.now collection.now }
 {
     for entry in names.as_slice() {

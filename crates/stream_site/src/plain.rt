@@ -189,4 +189,8 @@ impl Turns for PlainSite {
         self.own.push_reserved(OwnMark { cell, from, count });
         Ok(())
     }
+
+    fn take_record(&mut self) -> Record {
+        PlainSite::take_record(self)
+    }
 }

@@ -1,5 +1,5 @@
 // The two things that a writer does at a cell, and what it can know of one.
-use shard_versions::{ShardFault, Snapshot, Step};
+use shard_versions::{Record, ShardFault, Snapshot, Step};
 use std::alloc::Global;
 use tuple_values::{Memory, Names};
 
@@ -10,7 +10,7 @@ pub trait Turns {
     ghost use Rattle.shard_versions.specs.Histories.{is_pending};
     ghost use Rattle.topic_book.specs.Cells.{cells_in};
     ghost use Rattle.exchange_rules.specs.Cells.{history_in, write};
-    ghost use Rattle.exchange_rules.specs.Following.{Writer};
+    ghost use Rattle.exchange_rules.specs.Following.{Writer, cleared};
     ghost use Rattle.exchange_rules.specs.Primitives.{LooksAt, made};
     ghost use Rattle.exchange_rules.specs.Rows.{Layout, HasCell, shown_of};
     ghost use Rattle.exchange_rules.specs.Steps.{is_full, kinds_of, AreBy};
@@ -60,5 +60,13 @@ pub trait Turns {
         ensures shard_full { IsErrOf result ShardFault.ShardFull
             ↔ (is_full (layout self.old).limit (history_in (get_or (writer self.old).seen cell []))
             (kinds_of step) ≡ true) }
+        ensures layout { layout self.new ≡ layout self.old };
+
+    /// The looks and steps since the last such call, those of refused calls too. The record begins
+    /// anew.
+    fn take_record(&mut self) -> Record
+        ensures marks { result.marks ≡ (writer self.old).marks }
+        ensures own { result.own ≡ (writer self.old).own }
+        ensures rest { writer self.new ≡ cleared (writer self.old) }
         ensures layout { layout self.new ≡ layout self.old };
 }
