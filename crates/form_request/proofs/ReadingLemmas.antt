@@ -316,7 +316,7 @@ turn_reads names told Closed bytes given fits answers =
     (record { reads = λ more later after reads. reads; fits = fits; ends = (refl, ap (Rest 0) fits) })
 
 -- a message in front of others is one list of them
-message_after-append : (answer : Step100) (told : Bool) (later : List Message)
+pub message_after-append : (answer : Step100) (told : Bool) (later : List Message)
     → message_after answer told [] ++ later ≡ message_after answer told later
 message_after-append (step.Whole request) told later = refl
 message_after-append (step.Refused status) told later = refl
@@ -351,7 +351,7 @@ Leads-same names reader fits = record {
 }
 
 -- one piece behind another is one piece
-fed-fed : (held : Held) (piece more : List ℕ) → fed (fed held piece) more ≡ fed held (piece ++ more)
+pub fed-fed : (held : Held) (piece more : List ℕ) → fed (fed held piece) more ≡ fed held (piece ++ more)
 fed-fed held piece more = by_stage held.stage held.bytes
   where
     by_stage : (stage : Stage) (bytes : List ℕ)

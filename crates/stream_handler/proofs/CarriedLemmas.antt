@@ -15,7 +15,10 @@ use Rattle.exchange_rules.specs.declared.fault.SiteFault.TheVariants.{ShardFull,
 use Rattle.exchange_rules.proofs.ReachLemmas.{reaches_none, reaches_then}
 use Rattle.expr_plan.specs.ExprTree.{ExprTree}
 use Rattle.stream_handler.specs.Outcomes.{exception}
-use Rattle.stream_handler.specs.Requests.{Carried, IsBadBody, IsRefusal, indexed, plain_course, stream_course, update_course}
+use Rattle.topic_book.specs.Fitness.{shards_of}
+use Rattle.form_request.specs.declared.request.Request.{Request}
+use Rattle.stream_handler.specs.Refusals.{refusal}
+use Rattle.stream_handler.specs.Requests.{Carried, IsBadBody, IsRefusal, indexed, plain_course, request_course, stream_course, update_course}
 use Rattle.stream_handler.specs.declared.outcome.Outcome.{Outcome}
 use Rattle.stream_handler.specs.declared.outcome.Outcome.TheVariants.{Indexed}
 
@@ -96,3 +99,12 @@ index_refused old new p (ShardFull collection shard stand) (Err memory) s e =
 index_refused old new p (OutOfMemory stand) (Ok o) s e = absurd e
 index_refused old new p (OutOfMemory stand) (Err memory) s e =
     first_stopped old new p (λ r. ends (indexed r)) (OutOfMemory stand) s
+
+-- a collection that isn't there is told so
+pub unknown_told : (w : Writer) (l : Layout) (r : Request) (res : Result Outcome Memory)
+    → shards_of l.names r.collection ≡ 0 → IfOk res (λ o. o ≡ refusal 404)
+    → Carried w w (request_course l r) res
+unknown_told w l r (Ok o) none said =
+    let e : request_course l r ≡ ends o = rw (none, said) refl in
+    subst (λ p. Answers w w p o) (sym e) (nothing_asked w o)
+unknown_told w l r (Err memory) none said = nothing_done w (request_course l r)

@@ -3,4 +3,10 @@ pub mod Expressions
 pub mod Plains
 pub mod Responses
 pub mod Outcomes
+pub mod Refusals
 pub mod Requests
+pub mod Passing
+pub mod Exchanges
+pub mod Sessions
+pub mod Waiting
+pub mod Serving

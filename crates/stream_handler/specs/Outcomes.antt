@@ -1,5 +1,5 @@
 -- What a request is answered (own).
-use Rattle.std.specs.Prelude.{ℕ, Bool, List, [], Some}
+use Rattle.std.specs.Prelude.{ℕ, Bool, [], Some}
 use Rattle.tuple_values.specs.Document.{ByteList}
 use Rattle.json_text.specs.Replies.{body, update_body, error_body}
 use Rattle.stream_handler.specs.Responses.{response}

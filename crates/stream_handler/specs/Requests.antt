@@ -1,7 +1,7 @@
 -- What a request does at the cells and is answered, as a course (Solr Reference Guide, "Streaming
 -- Expressions" and "Indexing with Update Handlers"; texts of refusals own).
-use Rattle.std.specs.Prelude.{ℕ, ◌≡◌, ◌≢◌, ◌++◌, ◌||◌, Bool, false, List, [], Option, Some, None, Result, Ok, Err}
-use Rattle.std.specs.Prelude.{bytes_eq, codes}
+use Rattle.std.specs.Prelude.{ℕ, ◌≡◌, ◌≢◌, ◌++◌, ◌||◌, Bool, false, [], Option, Some, None, Result, Ok, Err}
+use Rattle.std.specs.Prelude.{bytes_eq, codes, nat_lt, if◌then◌else◌}
 use Rattle.std.specs.Fmt.{decimal}
 use Rattle.tuple_values.specs.Document.{ByteList}
 use Rattle.exchange_rules.specs.Courses.{Course, ends, and_then}
@@ -12,7 +12,6 @@ use Rattle.exchange_rules.specs.declared.fault.SiteFault.TheVariants.{ShardFull,
 use Rattle.form_request.specs.Params.{first_value}
 use Rattle.form_request.specs.declared.request.Handler.{Handler}
 use Rattle.form_request.specs.declared.request.Handler.TheVariants.{Stream, Update}
-use Rattle.form_request.specs.declared.request.Param.{Param}
 use Rattle.form_request.specs.declared.request.Request.{Request}
 use Rattle.json_text.specs.Faults as json
 use Rattle.json_text.specs.Updates.{update_in}
@@ -21,7 +20,9 @@ use Rattle.json_text.specs.declared.fault.JsonFault.TheVariants as bad
 use Rattle.json_text.specs.declared.update.Update as body
 use Rattle.expr_plan.specs.ExprTree.{ExprTree}
 use Rattle.stream_handler.specs.Expressions.{expression_of, collections, list_of}
+use Rattle.topic_book.specs.Fitness.{shards_of}
 use Rattle.stream_handler.specs.Outcomes.{exception}
+use Rattle.stream_handler.specs.Refusals.{refusal}
 use Rattle.stream_handler.specs.declared.outcome.Outcome.{Outcome}
 use Rattle.stream_handler.specs.declared.outcome.Outcome.TheVariants.{Indexed, Refused, ResultSet}
 
@@ -83,6 +84,8 @@ handled l r Update =
     update_course l r.collection (is_true (first_value (codes "commit") r.params))
     (update_in r.body)
 
--- what a request does and is answered
+-- what a request does and is answered; a collection that isn't there is told so
 abbrev pub request_course : Layout → Request → Course Outcome
-request_course l r = handled l r r.handler
+request_course l r =
+    if nat_lt 0 (shards_of l.names r.collection) then handled l r r.handler
+    else ends (refusal 404)

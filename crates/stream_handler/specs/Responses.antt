@@ -1,5 +1,5 @@
 -- The bytes of an HTTP response (RFC 9112, sections 4 and 6; which fields stand in it is own).
-use Rattle.std.specs.Prelude.{ℕ, ◌++◌, List, [], Bool, true, false, ◌||◌, nat_le, nat_lt, length}
+use Rattle.std.specs.Prelude.{ℕ, ◌++◌, [], Bool, true, false, ◌||◌, nat_le, nat_lt, length}
 use Rattle.std.specs.Prelude.{unwrap_or, codes, if◌then◌else◌}
 use Rattle.std.specs.Fmt.{decimal}
 use Rattle.http.specs.StatusCode.{reason_phrase}

@@ -1,16 +1,26 @@
 //! Requests, carried out at a site and answered.
 #![tactic(auto)]
 
-mod answer;
 mod check;
+mod connection;
+mod ending;
+mod exchange;
+mod expression;
 mod outcome;
 mod plain;
+mod refusal;
 mod request;
 mod response;
+mod serve;
 #[cfg(test)]
 mod tests;
 mod update;
+mod waiting;
 
-pub use answer::run_expression;
+pub use connection::serve_connection;
+pub use ending::{End, OneEnd, SessionEnd};
+pub use exchange::{Answered, Exchange, Exchanges, answer};
+pub use expression::run_expression;
 pub use outcome::Outcome;
 pub use request::run_request;
+pub use serve::serve_one;

@@ -1,15 +1,17 @@
 // Requests, carried out at a site.
-ghost use Rattle.std.specs.Prelude.{◌≡◌, ◌<◌, option_map};
+ghost use Rattle.std.specs.Prelude.{◌≡◌, ◌<◌, IfOk, option_map};
 ghost use Rattle.topic_book.specs.Fitness.{shards_of};
-ghost use Rattle.stream_handler.specs.Requests.{Carried, is_true, request_course};
+ghost use Rattle.stream_handler.specs.Refusals.{refusal};
+ghost use Rattle.stream_handler.specs.Requests.{Carried, handled, is_true, request_course};
 
 use crate::Outcome;
-use crate::answer::run_stream;
+use crate::expression::run_stream;
+use crate::refusal::refusal_text;
 use crate::update::run_update;
 use form_request::{Handler, Request};
 use std::alloc::Global;
-use stream_site::Turns;
-use tuple_values::Memory;
+use stream_site::{Turns, shards_of};
+use tuple_values::{Memory, Text};
 
 // Whether a parameter asks for a commit.
 fn is_true(value: Option<&str>) -> bool
@@ -21,16 +23,11 @@ fn is_true(value: Option<&str>) -> bool
     }
 }
 
-/// What a request does at the site and is answered (Solr Reference Guide, "Streaming Expressions",
-/// the `/stream` handler, and "Indexing with Update Handlers"; texts of refusals own).
-pub fn run_request<T: Turns>(
-    site: &mut T,
-    alloc: Global,
-    request: &Request,
-) -> Result<Outcome, Memory>
+// What a request does at a collection that is there.
+fn handle<T: Turns>(site: &mut T, alloc: Global, request: &Request) -> Result<Outcome, Memory>
     requires known { 0 < shards_of (T.layout site.old).names request.now.collection }
     ensures course { Carried (T.writer site.old) (T.writer site.new)
-        (request_course (T.layout site.old) request.now) result }
+        (handled (T.layout site.old) request.now request.now.handler) result }
     ensures layout { T.layout site.new ≡ T.layout site.old }
 {
     match request.handler {
@@ -46,4 +43,29 @@ pub fn run_request<T: Turns>(
             )
         }
     }
+}
+
+// The answer to a request whose collection isn't there.
+fn unknown(alloc: Global) -> Result<Outcome, Memory>
+    ensures { IfOk result (λ outcome. outcome ≡ refusal 404) }
+{
+    let msg = Text::of(alloc, refusal_text(404))?;
+    Ok(Outcome::Refused { code: 404, msg })
+}
+
+/// What a request does at the site and is answered (Solr Reference Guide, "Streaming Expressions",
+/// the `/stream` handler, and "Indexing with Update Handlers"; texts of refusals own).
+pub fn run_request<T: Turns>(
+    site: &mut T,
+    alloc: Global,
+    request: &Request,
+) -> Result<Outcome, Memory>
+    ensures course { Carried (T.writer site.old) (T.writer site.new)
+        (request_course (T.layout site.old) request.now) result }
+    ensures layout { T.layout site.new ≡ T.layout site.old }
+{
+    if shards_of(site.names(), request.collection.as_str()) == 0 {
+        return unknown(alloc);
+    }
+    handle(site, alloc, request)
 }

@@ -1,11 +1,12 @@
 // What no clause can say: that the courses and replies mean what the rules say, and that each call
 // that takes memory succeeds. Of two shards the second holds id `2` and the first id `3`.
-use crate::{run_expression, run_request};
+use crate::{End, SessionEnd, run_expression, run_request, serve_connection};
 use form_request::{Handler, Param, Params, Request};
+use io_edge::{MemorySink, MemorySource};
 use std::alloc::Global;
 use std::test::Fail;
 use stream_site::PlainSite;
-use tuple_values::{Bytes, Memory, NameShards, Names, Text};
+use tuple_values::{Bytes, Memory, NameShards, Names, Numbers, Text};
 
 // A site with the collection `c` of two shards.
 fn site(alloc: Global) -> Result<PlainSite, Memory> {
@@ -153,5 +154,61 @@ fn expressions_are_answered(rt: HostRuntime) -> Result<(), Fail> {
         let wanted = format!(in alloc; "{{\"result-set\":{{\"docs\":[{docs}]}}}}")?;
         assert!(rt; body.as_slice() == wanted.as_bytes());
     }
+    Ok(())
+}
+
+// What a connection of these bytes is served at a new site, seven bytes at a time.
+fn serve(alloc: Global, bytes: &str) -> Result<(SessionEnd, MemorySink), Memory> {
+    let mut site = site(alloc)?;
+    let mut all = Bytes::new(alloc);
+    all.extend(bytes.as_bytes())?;
+    let mut source = MemorySource::new(all, 7, Numbers::new(alloc));
+    let mut sink = MemorySink::new(alloc, Numbers::new(alloc));
+    let served = serve_connection(&mut site, alloc, &mut source, &mut sink);
+    Ok((served, sink))
+}
+
+// Whether the exchange of this number has so many looks and steps.
+fn has(served: &SessionEnd, number: usize, looks: usize, steps: usize) -> bool {
+    match served.exchanges.as_slice().get(number) {
+        Some(exchange) => exchange.marks.len() == looks && exchange.own.len() == steps,
+        None => false,
+    }
+}
+
+const UPDATE: &str = "POST /solr/c/update?commit=true HTTP/1.1\r\nContent-Length: 20\r\n\r\n\
+     [{\"id\":\"1\",\"n_i\":5}]";
+
+const SEARCH: &str = "GET /solr/c/stream?expr=search(c,q%3D%22*:*%22,fl%3D%22id%22,\
+     sort%3D%22id+asc%22) HTTP/1.0\r\n\r\n";
+
+const UPDATED: &str = "HTTP/1.1 200 OK\r\nContent-Type: application/json\r\n\
+     Content-Length: 41\r\n\r\n{\"responseHeader\":{\"status\":0,\"QTime\":0}}";
+
+const FOUND: &str = "HTTP/1.1 200 OK\r\nContent-Type: application/json\r\n\
+     Content-Length: 67\r\nConnection: close\r\n\r\n\
+     {\"result-set\":{\"docs\":[{\"id\":\"1\"},{\"EOF\":true,\"RESPONSE_TIME\":0}]}}";
+
+#[test]
+fn a_connection_is_served_until_it_closes(rt: HostRuntime) -> Result<(), Fail> {
+    let alloc = rt.alloc();
+    let requests = format!(in alloc; "{UPDATE}{SEARCH}{UPDATE}")?;
+    let wanted = format!(in alloc; "{UPDATED}{FOUND}")?;
+    let (served, sink) = serve(alloc, requests.as_str())?;
+    assert!(rt; served.end == End::Closed && served.exchanges.len() == 2);
+    assert!(rt; has(&served, 0, 2, 1) && has(&served, 1, 2, 0));
+    assert!(rt; sink.bytes() == wanted.as_bytes());
+    Ok(())
+}
+
+#[test]
+fn a_connection_ends_at_what_is_refused_or_cut(rt: HostRuntime) -> Result<(), Fail> {
+    let alloc = rt.alloc();
+    let (refused, _) = serve(alloc, "GET /solr/d/stream HTTP/1.1\r\n\r\n")?;
+    assert!(rt; refused.end == End::Refused { status: 404 });
+    let (cut, _) = serve(alloc, "GET /solr")?;
+    assert!(rt; cut.end == End::Cut { held: 9 });
+    let (ended, _) = serve(alloc, "\r\n")?;
+    assert!(rt; ended.end == End::Ended);
     Ok(())
 }

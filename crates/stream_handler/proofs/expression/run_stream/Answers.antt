@@ -4,7 +4,7 @@ use Rattle.std.specs.Prelude.{option_map}
 use Rattle.exchange_rules.specs.Following.{Answers}
 use Rattle.stream_handler.specs.Requests.{stream_course}
 use Rattle.stream_handler.proofs.CarriedLemmas.{nothing_done, begun, missing_done}
-use Rattle.stream_handler.proofs.answer.run_stream.Goals as goal
+use Rattle.stream_handler.proofs.expression.run_stream.Goals as goal
 
 pub returns-in_err-text-in-None-clause-course : goal.returns-in_err-text-in-None-clause-course
 returns-in_err-text-in-None-clause-course g c =

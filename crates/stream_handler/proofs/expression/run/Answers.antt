@@ -9,7 +9,7 @@ use Rattle.stream_handler.specs.Expressions.{collections, list_of}
 use Rattle.stream_handler.specs.Requests.{plain_course}
 use Rattle.stream_handler.specs.declared.outcome.Outcome.TheVariants.{ResultSet}
 use Rattle.stream_handler.proofs.CarriedLemmas.{nothing_done, first_stopped, first_done, first_answered, begun}
-use Rattle.stream_handler.proofs.answer.run.Goals as goal
+use Rattle.stream_handler.proofs.expression.run.Goals as goal
 
 pub returns-in_err-names-clause-course : goal.returns-in_err-names-clause-course
 returns-in_err-names-clause-course g c =

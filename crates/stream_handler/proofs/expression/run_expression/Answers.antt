@@ -5,7 +5,7 @@ use Rattle.stream_handler.specs.Expressions.{expression_of}
 use Rattle.stream_handler.specs.Plains.{IsTold}
 use Rattle.stream_handler.specs.Requests.{plain_course}
 use Rattle.stream_handler.proofs.CarriedLemmas.{nothing_done, told_done}
-use Rattle.stream_handler.proofs.answer.run_expression.Goals as goal
+use Rattle.stream_handler.proofs.expression.run_expression.Goals as goal
 
 pub returns-in-Err-Told-clause-course : goal.returns-in-Err-Told-clause-course
 returns-in-Err-Told-clause-course g c =

@@ -1,0 +1,75 @@
+-- Exchanges: what requests did and were answered, one after another (own).
+use Rattle.std.specs.Prelude.{ℕ, ◌≡◌, List, [], ◌∷◌, ◌++◌, map}
+use Rattle.std.specs.List.{flat_map}
+use Rattle.tuple_values.specs.Document.{ByteList}
+use Rattle.shard_versions.specs.declared.cut.CutMark.{CutMark}
+use Rattle.exchange_rules.specs.Acts.{Act, marks_of, own_of}
+use Rattle.exchange_rules.specs.Cells.{Log}
+use Rattle.exchange_rules.specs.Courses.{Course, ends}
+use Rattle.exchange_rules.specs.Following.{Follows, Writer, Answers, cleared}
+use Rattle.exchange_rules.specs.Rows.{Layout}
+use Rattle.form_request.specs.declared.reading.Message.{Message}
+use Rattle.form_request.specs.declared.request.Request.{Request}
+use Rattle.stream_handler.specs.Outcomes.{reply_of}
+use Rattle.stream_handler.specs.Passing.{said}
+use Rattle.stream_handler.specs.Requests.{request_course}
+use Rattle.stream_handler.specs.declared.exchange.Answered.{Answered}
+use Rattle.stream_handler.specs.declared.exchange.Exchange.{Exchange}
+use Rattle.stream_handler.specs.declared.outcome.Outcome.{Outcome}
+
+-- the exchange is sound for the course and this answer: over what the writer has seen, its marks
+-- and own marks are those of acts that follow the whole course, from these counts to those. All
+-- times are 0.
+pub record IsSound (me : ℕ) (seen : List Log) (had : List ℕ) (course : Course Outcome)
+    (x : Exchange) (o : Outcome) (end : List ℕ) : Type 0 where
+  pub acts : List Act
+  pub marks : x.marks ≡ marks_of acts
+  pub own : x.own ≡ own_of acts
+  pub followed : Follows me seen had course acts (ends o) end
+  pub at_once : x.millis ≡ 0
+
+-- a message, the exchange that it led to, and its answer
+pub record Answer : Type 0 where
+  pub message : Message
+  pub exchange : Exchange
+  pub outcome : Outcome
+
+-- each exchange is sound for its message's request, one after another
+abbrev pub AreSound : Layout → ℕ → List Log → List ℕ → List Answer → List ℕ → Type 0
+AreSound l me seen had [] end = end ≡ had
+AreSound l me seen had (a ∷ answers) end =
+    (mid : List ℕ)
+    × IsSound me seen had (request_course l a.message.request) a.exchange a.outcome mid
+    × AreSound l me seen mid answers end
+
+-- what is written of a message: `100 Continue` where it asks for it, and the reply
+abbrev pub reply_to : Answer → ByteList
+reply_to a =
+    said a.message.asks ++ reply_of a.message.request.closes a.exchange.millis a.outcome
+
+abbrev pub messages_of : List Answer → List Message
+messages_of answers = map (λ a. a.message) answers
+
+abbrev pub exchanges_of : List Answer → List Exchange
+exchanges_of answers = map (λ a. a.exchange) answers
+
+-- the replies, in the order of the messages
+abbrev pub replies_of : List Answer → ByteList
+replies_of answers = flat_map reply_to answers
+
+-- the marks of all looks, in order
+abbrev pub looks_of : List Answer → List CutMark
+looks_of answers = flat_map (λ a. a.exchange.marks) answers
+
+-- a request was carried out and answered: its writer began with an empty record, followed the
+-- request's course, and left its record to the exchange
+pub record IsAnswered (l : Layout) (old new : Writer) (request : Request) (a : Answered)
+    : Type 0 where
+  pub outcome : Outcome
+  pub end : Writer
+  pub carried : Answers (cleared old) end (request_course l request) outcome
+  pub rest : new ≡ cleared end
+  pub marks : a.exchange.marks ≡ end.marks
+  pub own : a.exchange.own ≡ end.own
+  pub reply : a.reply ≡ reply_of request.closes a.exchange.millis outcome
+  pub at_once : a.exchange.millis ≡ 0

@@ -1,0 +1,76 @@
+// The serving of a whole connection.
+ghost use Rattle.std.specs.Prelude.{◌≡◌};
+ghost use Rattle.form_request.specs.Streams.{begun};
+ghost use Rattle.stream_handler.specs.Sessions.{IsBounded, IsConnection, nothing, record_of, wire};
+
+use crate::{End, Exchange, Exchanges, OneEnd, SessionEnd, serve_one};
+use form_request::Requests;
+use io_edge::{Sink, Source};
+use std::alloc::Global;
+use stream_site::Turns;
+
+/// How many requests of a connection are answered at most.
+const MOST: u64 = 10_000;
+
+// Serves the requests of a connection until it is over, or as many as it has at most.
+fn serve_all<T: Turns, S: Source, K: Sink>(
+    site: &mut T,
+    alloc: Global,
+    requests: &mut Requests,
+    source: &mut S,
+    sink: &mut K,
+) -> (Vec<Exchange>, End)
+    requires { record_of (T.writer site.old) ≡ nothing }
+    ensures served { IsBounded (T.layout site.old)
+        (wire requests.old (S.left source.old) (S.faults source.old) (K.written sink.old)
+        (K.faults sink.old))
+        (wire requests.new (S.left source.new) (S.faults source.new) (K.written sink.new)
+        (K.faults sink.new)) (T.writer site.old) (T.writer site.new) result.0.items
+        (record_of (T.writer site.new)) result.1 }
+    ensures layout { T.layout site.new ≡ T.layout site.old }
+{
+    let mut exchanges = Vec::new(alloc);
+    for _ in 0..MOST {
+        if exchanges.reserve(1).is_err() {
+            return (exchanges, End::OutOfMemory);
+        }
+        match serve_one(site, alloc, requests, source, sink) {
+            OneEnd::Served(exchange) => exchanges.push_reserved(exchange),
+            OneEnd::Last(exchange) => {
+                exchanges.push_reserved(exchange);
+                return (exchanges, End::Closed);
+            }
+            OneEnd::Over { end, unfinished } => match unfinished {
+                None => return (exchanges, end),
+                Some(exchange) => {
+                    exchanges.push_reserved(exchange);
+                    return (exchanges, end);
+                }
+            },
+        }
+    }
+    (exchanges, End::Closed)
+}
+
+/// Serves a connection to its end. At most 10,000 requests are answered.
+pub fn serve_connection<T: Turns, S: Source, K: Sink>(
+    site: &mut T,
+    alloc: Global,
+    source: &mut S,
+    sink: &mut K,
+) -> SessionEnd
+    ensures session { IsConnection (T.layout site.old)
+        (wire begun (S.left source.old) (S.faults source.old) (K.written sink.old)
+        (K.faults sink.old)) (S.left source.new) (S.faults source.new) (K.written sink.new)
+        (K.faults sink.new) (T.writer site.old) (T.writer site.new) result }
+    ensures layout { T.layout site.new ≡ T.layout site.old }
+{
+    let _ = site.take_record();
+    let mut requests = Requests::begin(alloc);
+    let (exchanges, end) = serve_all(site, alloc, &mut requests, source, sink);
+    SessionEnd {
+        exchanges: Exchanges::from_vec(exchanges),
+        end,
+        rest: site.take_record(),
+    }
+}

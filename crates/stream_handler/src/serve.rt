@@ -1,0 +1,66 @@
+// The serving of a connection, a message at a time.
+ghost use Rattle.std.specs.Prelude.{◌≡◌};
+ghost use Rattle.stream_handler.specs.Sessions.{IsOneEnd, wire};
+ghost use Rattle.stream_handler.specs.Serving.{IsReplied, sunk};
+
+use crate::waiting::next_request;
+use crate::{Answered, End, OneEnd, answer};
+use form_request::{Request, Requests};
+use io_edge::{Put, Sink, Source};
+use std::alloc::Global;
+use stream_site::Turns;
+
+// Carries out a request and writes its reply.
+fn reply_to<T: Turns, K: Sink>(
+    site: &mut T,
+    alloc: Global,
+    request: &Request,
+    sink: &mut K,
+) -> OneEnd
+    ensures replied { IsReplied (T.layout site.old) (T.writer site.old) (T.writer site.new)
+        request.now (sunk (K.written sink.old) (K.written sink.new) (K.faults sink.old)
+        (K.faults sink.new)) result }
+    ensures layout { T.layout site.new ≡ T.layout site.old }
+{
+    let Ok(answered) = answer(site, alloc, request) else {
+        return OneEnd::Over {
+            end: End::OutOfMemory,
+            unfinished: None,
+        };
+    };
+    let Answered { reply, exchange } = answered;
+    match sink.put(reply.as_slice()) {
+        Put::All if request.closes => OneEnd::Last(exchange),
+        Put::All => OneEnd::Served(exchange),
+        Put::Failed => OneEnd::Over {
+            end: End::WriteFault,
+            unfinished: Some(exchange),
+        },
+    }
+}
+
+/// Serves the next request of a connection. The site's record begins anew. What is held of the
+/// stream and what is taken from the source is read as one.
+pub fn serve_one<T: Turns, S: Source, K: Sink>(
+    site: &mut T,
+    alloc: Global,
+    requests: &mut Requests,
+    source: &mut S,
+    sink: &mut K,
+) -> OneEnd
+    ensures served { IsOneEnd (T.layout site.old)
+        (wire requests.old (S.left source.old) (S.faults source.old) (K.written sink.old)
+        (K.faults sink.old))
+        (wire requests.new (S.left source.new) (S.faults source.new) (K.written sink.new)
+        (K.faults sink.new)) (T.writer site.old) (T.writer site.new) result }
+    ensures layout { T.layout site.new ≡ T.layout site.old }
+{
+    let _ = site.take_record();
+    match next_request(alloc, site.names(), requests, source, sink) {
+        Ok(request) => reply_to(site, alloc, &request, sink),
+        Err(end) => OneEnd::Over {
+            end,
+            unfinished: None,
+        },
+    }
+}
