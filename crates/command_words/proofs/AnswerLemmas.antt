@@ -1,14 +1,35 @@
 -- What follows of an answer from its being right.
-use Rattle.std.proofs.Common.{Result, Ok, Err, IfOk, IsErrOf, List}
+use Rattle.std.proofs.Common.{◌≡◌, Bool, true, false, Result, Ok, Err, IfOk, IsErrOf, List, [], ◌∷◌}
+use Rattle.std.proofs.Common.{Option, Some, None, refl, sym, ap, subst, ◌∙◌, if◌then◌else◌}
+use Rattle.std.specs.Prelude.{IsSome, is_some, option_and_then, length, ◌==◌}
 use Rattle.tuple_values.specs.Document.{ByteList}
 use Rattle.command_words.specs.Answering.{Answers}
-use Rattle.command_words.specs.Commands.{command_of, names_in}
+use Rattle.command_words.specs.Commands.{script_over, command_of, names_in}
+use Rattle.command_words.specs.Words.{name_of}
 use Rattle.command_words.specs.Grammar.{IsCommand, IsReadable}
-use Rattle.command_words.specs.Names.{AreFit}
+use Rattle.tuple_values.specs.declared.names.NameShards.{NameShards}
+use Rattle.command_words.specs.Names.{go_together, each_of, behind, names_of, AreFit}
 use Rattle.command_words.specs.declared.command.Command.{Command}
+use Rattle.command_words.specs.declared.command.Command.TheVariants.{Script}
 use Rattle.command_words.specs.declared.fault.WordsFault.{WordsFault}
 use Rattle.command_words.specs.declared.fault.WordsFault.TheVariants.{Refused, OutOfMemory}
-use Rattle.command_words.proofs.CommandLemmas.{command_looks, command_none, command_of_fit}
+use Rattle.command_words.proofs.CommandLemmas.{joined-nil, command_looks, command_none, command_of_fit, names_of_fit}
+use Rattle.command_words.proofs.WordLemmas.{guard_some}
+
+-- words that say something look like it
+some_readable : (words : List ByteList) (o : Option Command) → command_of words ≡ o
+    → IsSome (command_of words) → IsReadable words
+some_readable words None is some =
+    let none : IsSome (let o : Option Command = None in o) = subst IsSome is some in
+    absurd (cc)
+some_readable words (Some command) is some = (command, command_looks words command is)
+
+-- what is there under a condition is all that it gives
+guard_is : (b : Bool) (names : List NameShards)
+    → true ≡ is_some (if b then Some names else None)
+    → (if b then Some names else None) ≡ Some names
+guard_is true names e = refl
+guard_is false names e = absurd (cc)
 
 -- the words look like the command that is answered
 pub answers_ok : (words : List ByteList) (result : Result Command WordsFault)
@@ -28,3 +49,61 @@ pub answers_refused : (words : List ByteList) (result : Result Command WordsFaul
 answers_refused words (Ok command) a is = absurd (cc)
 answers_refused words (Err Refused) a is = command_none words a
 answers_refused words (Err OutOfMemory) a is = absurd (cc)
+
+-- the words look like a command where memory is wanting
+pub answers_memory : (words : List ByteList) (result : Result Command WordsFault)
+    → (IsErrOf result OutOfMemory → IsSome (command_of words))
+    → IsErrOf result OutOfMemory → IsReadable words
+answers_memory words result memory is = some_readable words (command_of words) refl (memory is)
+
+-- the names are those of each word, where these go together
+pub names_answered : (words : List ByteList) (result : Result (List NameShards) WordsFault)
+    → true ≡ is_some (names_of words) → Answers (each_of words) result
+    → Answers (names_of words) result
+names_answered words (Ok names) some a =
+    let e : names_of words ≡ behind [] (Some names) = ap (behind []) a in
+    e ∙ guard_is (go_together names) names (some ∙ ap is_some e)
+names_answered words (Err Refused) some a = ap (behind []) a
+names_answered words (Err OutOfMemory) some a = tt
+
+-- and they may be named together
+pub names_fit : (words : List ByteList) (result : Result (List NameShards) WordsFault)
+    → Answers (names_of words) result → IfOk result AreFit
+names_fit words (Ok names) a = names_of_fit words names a
+names_fit words (Err fault) a = tt
+
+-- what is given under a condition is no empty list unless that is given
+guard_nil : (o : Option (List NameShards)) → behind [] o ≡ Some [] → o ≡ Some []
+guard_nil None e = absurd (cc)
+guard_nil (Some names) e = (guard_some (go_together names) (Some names) [] e).1
+
+-- words name some collection where there is a word
+names_there : (words : List ByteList) → names_of words ≡ Some [] → words ≡ []
+names_there [] e = refl
+names_there (word ∷ words) e =
+    absurd (joined-nil (name_of word) (each_of words) (guard_nil (each_of (word ∷ words)) e))
+
+-- there is a word where their number isn't 0
+pub some_word : (words : List ByteList) → false ≡ (length words == 0) → words ≡ [] → ⊥
+some_word [] some e = absurd (cc)
+some_word (word ∷ words) some e = absurd (cc)
+
+-- the script over what words name, where there is a word
+pub script_said : (words : List ByteList) (names : List NameShards) → (words ≡ [] → ⊥)
+    → names_of words ≡ Some names
+    → option_and_then script_over (names_of words) ≡ Some (Script names)
+script_said words [] some e = absurd (some (names_there words e))
+script_said words (n ∷ names) some e = ap (option_and_then script_over) e
+
+-- by what they name
+script_by : (words : List ByteList) (o : Option (List NameShards)) → names_of words ≡ o
+    → (words ≡ [] → ⊥) → IsSome o → IsSome (option_and_then script_over (names_of words))
+script_by words None e some there =
+    let none : IsSome (let o : Option (List NameShards) = None in o) = there in absurd (cc)
+script_by words (Some names) e some there =
+    subst IsSome (sym (script_said words names some e)) refl
+
+-- there is a script over what words name, where there is a word
+pub script_there : (words : List ByteList) → (words ≡ [] → ⊥) → IsSome (names_of words)
+    → IsSome (option_and_then script_over (names_of words))
+script_there words some there = script_by words (names_of words) refl some there

@@ -19,13 +19,13 @@ use Rattle.command_words.proofs.WordLemmas.{guard_some}
 use Rattle.command_words.proofs.GrammarLemmas.{word_read, word_looks}
 
 -- what is joined isn't none
-joined-nil : (o : Option NameShards) (p : Option (List NameShards)) → joined o p ≡ Some [] → ⊥
+pub joined-nil : (o : Option NameShards) (p : Option (List NameShards)) → joined o p ≡ Some [] → ⊥
 joined-nil None p e = cc
 joined-nil (Some n) None e = cc
 joined-nil (Some n) (Some names) e = cc
 
 -- the parts of what is joined
-joined-cons : (o : Option NameShards) (p : Option (List NameShards)) (n : NameShards)
+pub joined-cons : (o : Option NameShards) (p : Option (List NameShards)) (n : NameShards)
     (names : List NameShards) → joined o p ≡ Some (n ∷ names) → (o ≡ Some n) × (p ≡ Some names)
 joined-cons None p n names e = absurd (cc)
 joined-cons (Some m) None n names e = absurd (cc)

@@ -1,5 +1,4 @@
 pub mod AnswerLemmas
-pub mod ApartLemmas
 pub mod CommandLemmas
 pub mod GrammarLemmas
 pub mod NameLemmas

@@ -15,6 +15,16 @@ abbrev pub has_name : ByteList → List NameShards → Bool
 has_name name [] = false
 has_name name (n ∷ names) = bytes_eq n.name name || has_name name names
 
+-- a word names a collection of this name
+abbrev pub says_name : ByteList → Option NameShards → Bool
+says_name name None = false
+says_name name (Some n) = bytes_eq n.name name
+
+-- one of the words does
+abbrev pub is_said : ByteList → List ByteList → Bool
+is_said name [] = false
+is_said name (word ∷ words) = says_name name (name_of word) || is_said name words
+
 -- no two have the same
 abbrev pub differ : List NameShards → Bool
 differ [] = true

@@ -1,9 +1,9 @@
 // The command that the words of a command line say.
-ghost use Rattle.std.specs.Prelude.{◌≡◌, ◌↔◌, IfOk, IsErrOf, List, Some};
+ghost use Rattle.std.specs.Prelude.{◌≡◌, ◌↔◌, ◌∷◌, IfOk, IsErrOf, IsSome, List, Some, option_and_then};
 ghost use Rattle.tuple_values.specs.Document.{ByteList};
 ghost use Rattle.tuple_values.specs.declared.names.NameShards.{NameShards};
 ghost use Rattle.command_words.specs.Answering.{Answers};
-ghost use Rattle.command_words.specs.Commands.{command_of, names_in};
+ghost use Rattle.command_words.specs.Commands.{command_of, names_in, script_over};
 ghost use Rattle.command_words.specs.Grammar.{IsWord, AreNames, IsCommand, IsReadable};
 ghost use Rattle.command_words.specs.Names.{names_of, AreFit};
 ghost use Rattle.command_words.specs.Words.{name_of};
@@ -11,7 +11,7 @@ ghost use Rattle.command_words.specs.declared.command.Command.{Command};
 
 use crate::{WordsFault, read_names};
 use std::alloc::Global;
-use tuple_values::{Names, Words};
+use tuple_values::{Names, Text, Words};
 
 /// What the program is to do, over which collections.
 #[derive(Debug, Drop)]
@@ -31,6 +31,9 @@ pub fn read_command(alloc: Global, words: &Words) -> Result<Command, WordsFault>
     // `Refused` comes only where they say none.
     ensures refused { IsErrOf result WordsFault.Refused → ¬ (IsReadable words.now) }
 
+    // Memory can be wanting only where they say one.
+    ensures memory { IsErrOf result WordsFault.OutOfMemory → IsReadable words.now }
+
     // All of this as a function of the words.
     ensures computed { Answers (command_of words.now) result }
 {
@@ -39,17 +42,42 @@ pub fn read_command(alloc: Global, words: &Words) -> Result<Command, WordsFault>
 
 // The command that the words say.
 fn command_in(alloc: Global, words: &Words) -> Result<Command, WordsFault>
-    ensures { Answers (command_of words.now) result }
+    ensures computed { Answers (command_of words.now) result }
+    ensures memory { IsErrOf result WordsFault.OutOfMemory → IsSome (command_of words.now) }
 {
-    let Some((word, rest)) = words.as_slice().split_first() else {
-        return Err(WordsFault::Refused);
-    };
-    let names = read_names(alloc, rest)?;
-    match word.as_str() {
-        "eval" => Ok(Command::Eval { names }),
-        "script" if names.len() > 0 => Ok(Command::Script { names }),
+    match words.as_slice().split_first() {
+        Some((word, rest)) => command_by(alloc, word.as_str(), rest),
+        None => Err(WordsFault::Refused),
+    }
+}
+
+// The command of this word over the collections that the other words name.
+fn command_by(alloc: Global, word: &str, rest: &[Text]) -> Result<Command, WordsFault>
+    ensures computed { Answers (command_of (word.now ∷ rest.now)) result }
+    ensures memory { IsErrOf result WordsFault.OutOfMemory
+        → IsSome (command_of (word.now ∷ rest.now)) }
+{
+    match word {
+        "eval" => {
+            let names = read_names(alloc, rest)?;
+            Ok(Command::Eval { names })
+        }
+        "script" => script_over(alloc, rest),
         _ => Err(WordsFault::Refused),
     }
+}
+
+// The script over the collections that words name, of which there is one at least.
+fn script_over(alloc: Global, words: &[Text]) -> Result<Command, WordsFault>
+    ensures computed { Answers (option_and_then script_over (names_of words.now)) result }
+    ensures memory { IsErrOf result WordsFault.OutOfMemory
+        → IsSome (option_and_then script_over (names_of words.now)) }
+{
+    if words.is_empty() {
+        return Err(WordsFault::Refused);
+    }
+    let names = read_names(alloc, words)?;
+    Ok(Command::Script { names })
 }
 
 /// The computed readings are what the words look like: the two definitions of each agree.

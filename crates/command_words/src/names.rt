@@ -1,7 +1,8 @@
 // The names of collections, one a word.
-ghost use Rattle.std.specs.Prelude.{◌≡◌, IfOk};
+ghost use Rattle.std.specs.Prelude.{◌≡◌, IfOk, IsErrOf, IsSome, is_some};
 ghost use Rattle.command_words.specs.Answering.{Answers};
-ghost use Rattle.command_words.specs.Names.{has_name, names_of, AreFit};
+ghost use Rattle.command_words.specs.Names.{says_name, is_said, each_of, names_of, AreFit};
+ghost use Rattle.command_words.specs.Words.{name_of};
 
 use crate::WordsFault;
 use crate::word::parts_of;
@@ -11,37 +12,71 @@ use tuple_values::{NameShards, Names, Text};
 // The most shards of all collections together.
 const MOST: u16 = 16;
 
-fn has_name(name: &str, names: &[NameShards]) -> bool
-    ensures { result ≡ has_name name.now names.now }
+fn says_name(name: &str, word: &Text) -> bool
+    ensures { result ≡ says_name name.now (name_of word.now) }
 {
-    for item in names {
-        if item.name.as_str() == name {
+    match parts_of(word.as_str()) {
+        Some((other, _)) => other == name,
+        None => false,
+    }
+}
+
+fn is_said(name: &str, words: &[Text]) -> bool
+    ensures { result ≡ is_said name.now words.now }
+{
+    for word in words {
+        if says_name(name, word) {
             return true;
         }
     }
     false
 }
 
-/// The collections that are named by words `NAME=SHARDS`, in their order. There may be none.
-pub fn read_names(alloc: Global, words: &[Text]) -> Result<Names, WordsFault>
-    ensures computed { Answers (names_of words.now) result }
-    ensures fit { IfOk result AreFit }
+// Whether the words name collections that may be named together. Takes no memory.
+fn are_names(words: &[Text]) -> bool
+    ensures { result ≡ is_some (names_of words.now) }
+{
+    let mut together = 0;
+    for (place, word) in words.iter().enumerate() {
+        let Some((name, shards)) = parts_of(word.as_str()) else {
+            return false;
+        };
+        if is_said(name, &words[place + 1..]) {
+            return false;
+        }
+        if together + shards > MOST {
+            return false;
+        }
+        together += shards;
+    }
+    true
+}
+
+// The collection that each word names.
+fn read_each(alloc: Global, words: &[Text]) -> Result<Names, WordsFault>
+    ensures { Answers (each_of words.now) result }
 {
     let mut names = Names::new(alloc);
-    let mut together = 0;
     for word in words {
         let Some((name, shards)) = parts_of(word.as_str()) else {
             return Err(WordsFault::Refused);
         };
-        if has_name(name, names.as_slice()) {
-            return Err(WordsFault::Refused);
-        }
-        if together + shards > MOST {
-            return Err(WordsFault::Refused);
-        }
         let name = Text::of(alloc, name)?;
         names.push(NameShards { name, shards })?;
-        together += shards;
     }
     Ok(names)
+}
+
+/// The collections that are named by words `NAME=SHARDS`, in their order. There may be none.
+pub fn read_names(alloc: Global, words: &[Text]) -> Result<Names, WordsFault>
+    ensures computed { Answers (names_of words.now) result }
+    ensures fit { IfOk result AreFit }
+
+    // Memory can be wanting only where they name some.
+    ensures memory { IsErrOf result WordsFault.OutOfMemory → IsSome (names_of words.now) }
+{
+    if !are_names(words) {
+        return Err(WordsFault::Refused);
+    }
+    read_each(alloc, words)
 }

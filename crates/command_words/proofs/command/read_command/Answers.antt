@@ -1,12 +1,18 @@
-use Rattle.command_words.proofs.AnswerLemmas.{answers_ok, answers_fit, answers_refused}
+use Rattle.command_words.proofs.AnswerLemmas.{answers_ok, answers_fit, answers_refused, answers_memory}
 use Rattle.command_words.proofs.command.read_command.Goals as goal
 
 pub returns-clause-ok : goal.returns-clause-ok
-returns-clause-ok c = answers_ok c.args.words.now c.command_in.result c.command_in.ensures
+returns-clause-ok c =
+    answers_ok c.args.words.now c.command_in.result c.command_in.ensures.computed
 
 pub returns-clause-fit : goal.returns-clause-fit
-returns-clause-fit c = answers_fit c.args.words.now c.command_in.result c.command_in.ensures
+returns-clause-fit c =
+    answers_fit c.args.words.now c.command_in.result c.command_in.ensures.computed
 
 pub returns-clause-refused : goal.returns-clause-refused
 returns-clause-refused c =
-    answers_refused c.args.words.now c.command_in.result c.command_in.ensures
+    answers_refused c.args.words.now c.command_in.result c.command_in.ensures.computed
+
+pub returns-clause-memory : goal.returns-clause-memory
+returns-clause-memory c =
+    answers_memory c.args.words.now c.command_in.result c.command_in.ensures.memory
