@@ -1,2 +1,8 @@
 pub mod TakingLemmas
-pub mod PlanLemmas
+pub mod AloneLemmas
+pub mod BegunLemmas
+pub mod WritingLemmas
+pub mod CauseLemmas
+pub mod ScriptLemmas
+pub mod ServingLemmas
+pub mod LineLemmas

@@ -1,11 +1,12 @@
 -- How a run may end: its status, its line, what it has written, and why (own).
-use Rattle.std.specs.Prelude.{◌≡◌, ℕ, ◌⊎◌, List, [], ◌∷◌, take, codes, Option, Some, None, IsOk, IsErr, IfSome}
+use Rattle.std.specs.Prelude.{◌≡◌, ℕ, ◌⊎◌, ◌++◌, List, [], codes, Option, IfSome}
+use Rattle.std.specs.Fmt.{decimal}
 use Rattle.io_edge.specs.Edge.{Appends, AppendsPrefix, Rose}
 use Rattle.tuple_values.specs.Document.{ByteList}
-use Rattle.solr_streams.specs.Inputs.{limit}
-use Rattle.solr_streams.specs.Replies.{meaning, reply}
+use Rattle.command_words.specs.declared.command.Command.{Command}
+use Rattle.solr_streams.specs.Commands.{IsCommand, IsAnswered, IsRefused, IsBegun, IsCut, IsLeft, IsStopped}
 use Rattle.solr_streams.specs.declared.ending.Ending.{Ending}
-use Rattle.solr_streams.specs.declared.ending.Ending.TheVariants.{Done, InputFailed, OutputFailed, WordsRefused, Faulty, OutOfMemory}
+use Rattle.solr_streams.specs.declared.ending.Ending.TheVariants.{Done, InputFailed, OutputFailed, WordsRefused, Faulty, OutOfMemory, InputCut, MessageRefused}
 
 -- the status of the process
 abbrev pub status_of : Ending → ℕ
@@ -15,6 +16,12 @@ status_of OutputFailed = 1
 status_of WordsRefused = 2
 status_of Faulty = 3
 status_of OutOfMemory = 4
+status_of InputCut = 5
+status_of (MessageRefused status) = 5
+
+-- the line of a message that was refused with this status
+abbrev pub refused_line : ℕ → ByteList
+refused_line status = codes "refused " ++ decimal status ++ codes "\n"
 
 -- the line on errors, empty where there is none
 abbrev pub line_of : Ending → ByteList
@@ -24,35 +31,36 @@ line_of OutputFailed = codes "fault: output\n"
 line_of WordsRefused = codes "words refused\n"
 line_of Faulty = []
 line_of OutOfMemory = codes "out of memory\n"
+line_of InputCut = codes "input cut\n"
+line_of (MessageRefused status) = refused_line status
 
--- the words are a command
-abbrev pub IsCommand : List ByteList → Type 0
-IsCommand words = words ≡ codes "eval" ∷ []
+-- the same, but for that of a message that was refused
+abbrev pub fixed_line : Ending → ByteList
+fixed_line Done = []
+fixed_line InputFailed = codes "fault: input\n"
+fixed_line OutputFailed = codes "fault: output\n"
+fixed_line WordsRefused = codes "words refused\n"
+fixed_line Faulty = []
+fixed_line OutOfMemory = codes "out of memory\n"
+fixed_line InputCut = codes "input cut\n"
+fixed_line (MessageRefused status) = []
 
--- the expression of an input, which is told to have these bytes, is answered by its reply
-abbrev pub IsAnswered : List ℕ → Option (List ℕ) → Option (List ℕ) → Type 0
-IsAnswered all old new = IsOk (meaning (take limit all)) × Appends old new (reply (take limit all))
-
--- the first fault of the expression of such an input is told by its reply
-abbrev pub IsRefused : List ℕ → Option (List ℕ) → Option (List ℕ) → Type 0
-IsRefused all old new = IsErr (meaning (take limit all)) × Appends old new (reply (take limit all))
-
--- a first part of the reply to the expression of such an input stands on output
-abbrev pub IsBegun : List ℕ → Option (List ℕ) → Option (List ℕ) → Type 0
-IsBegun all old new = AppendsPrefix old new (reply (take limit all))
-
--- what stands on output at an ending of `eval`, for an input that is told to have these bytes
-abbrev pub WritesFor : Ending → List ℕ → Option (List ℕ) → Option (List ℕ) → Type 0
-WritesFor Done all old new = IsAnswered all old new
-WritesFor InputFailed all old new = new ≡ old
-WritesFor OutputFailed all old new = IsBegun all old new
-WritesFor WordsRefused all old new = new ≡ old
-WritesFor Faulty all old new = IsRefused all old new
-WritesFor OutOfMemory all old new = new ≡ old
+-- what a command has written at an ending, for an input that is told to have these bytes
+abbrev pub WritesFor : Ending → Option Command → List ℕ → Option (List ℕ) → Option (List ℕ)
+    → Type 0
+WritesFor Done command all old new = IsAnswered command all old new
+WritesFor InputFailed command all old new = IsLeft command all old new
+WritesFor OutputFailed command all old new = IsBegun command all old new
+WritesFor WordsRefused command all old new = new ≡ old
+WritesFor Faulty command all old new = IsRefused command all old new
+WritesFor OutOfMemory command all old new = IsLeft command all old new
+WritesFor InputCut command all old new = IsCut command all old new
+WritesFor (MessageRefused status) command all old new = IsStopped command status all old new
 
 -- the same, where the input tells its bytes
-abbrev pub Writes : Ending → Option (List ℕ) → Option (List ℕ) → Option (List ℕ) → Type 0
-Writes end left old new = IfSome left (λ all. WritesFor end all old new)
+abbrev pub Writes : Ending → Option Command → Option (List ℕ) → Option (List ℕ)
+    → Option (List ℕ) → Type 0
+Writes end command left old new = IfSome left (λ all. WritesFor end command all old new)
 
 -- how often input and output had failed before, and have failed after
 pub record Counts : Type 0 where
@@ -61,24 +69,42 @@ pub record Counts : Type 0 where
   pub output_old : ℕ
   pub output_new : ℕ
 
+-- a count of faults rose, where the ending is a failure of input or output
+abbrev pub HasRisen : Ending → Counts → Type 0
+HasRisen Done counts = Unit {0}
+HasRisen InputFailed counts = Rose counts.input_old counts.input_new
+HasRisen OutputFailed counts = Rose counts.output_old counts.output_new
+HasRisen WordsRefused counts = Unit {0}
+HasRisen Faulty counts = Unit {0}
+HasRisen OutOfMemory counts = Unit {0}
+HasRisen InputCut counts = Unit {0}
+HasRisen (MessageRefused status) counts = Unit {0}
+
+-- the words are no command exactly where they are refused
+abbrev pub HasWords : Ending → List ByteList → Type 0
+HasWords Done words = IsCommand words
+HasWords InputFailed words = IsCommand words
+HasWords OutputFailed words = IsCommand words
+HasWords WordsRefused words = ¬ (IsCommand words)
+HasWords Faulty words = IsCommand words
+HasWords OutOfMemory words = IsCommand words
+HasWords InputCut words = IsCommand words
+HasWords (MessageRefused status) words = IsCommand words
+
 -- why a run ended so: the words, and a count of faults that rose
 abbrev pub HasCause : Ending → List ByteList → Counts → Type 0
-HasCause Done words counts = IsCommand words
-HasCause InputFailed words counts = IsCommand words × Rose counts.input_old counts.input_new
-HasCause OutputFailed words counts = IsCommand words × Rose counts.output_old counts.output_new
-HasCause WordsRefused words counts = ¬ (IsCommand words)
-HasCause Faulty words counts = IsCommand words
-HasCause OutOfMemory words counts = IsCommand words
+HasCause end words counts = HasWords end words × HasRisen end counts
 
 -- the line stands on errors, or a first part of it where that failed
 abbrev pub SaysLine : Option (List ℕ) → Option (List ℕ) → ℕ → ℕ → ByteList → Type 0
 SaysLine old new faults_old faults_new line =
     Appends old new line ⊎ (Rose faults_old faults_new × AppendsPrefix old new line)
 
--- the run ended with this status for a cause that its line names
+-- the run ended with this status, for a cause that its line names, and has written what belongs to it
 pub record IsToldEnding (status : ℕ) (words : List ByteList) (counts : Counts)
-    (said : ByteList → Type 0) : Type 0 where
+    (said : ByteList → Type 0) (wrote : Ending → Type 0) : Type 0 where
   pub ending : Ending
   pub is : status ≡ status_of ending
   pub line : said (line_of ending)
   pub cause : HasCause ending words counts
+  pub written : wrote ending

@@ -1,4 +1,7 @@
 pub mod Inputs
-pub mod Plans
 pub mod Replies
+pub mod Evaluations
+pub mod Scripts
+pub mod Commands
 pub mod Endings
+pub mod Serving

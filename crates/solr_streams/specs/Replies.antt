@@ -1,33 +1,70 @@
--- The reply to the bytes of an expression (own).
-use Rattle.std.specs.Prelude.{List, [], ◌∷◌, Some, None, Result, Ok, Err}
-use Rattle.json_text.specs.Replies.{body}
+-- What the bytes of an expression mean over collections that are empty, and their reply (own).
+use Rattle.std.specs.Prelude.{ℕ, zero, suc, ◌+◌, List, [], ◌∷◌, ◌++◌, Some, None, Result, Ok, Err}
 use Rattle.tuple_values.specs.Document.{ByteList, Doc}
-use Rattle.expr_reader.specs.Tree.{CallTree}
-use Rattle.expr_reader.specs.Reading.{read_of}
-use Rattle.expr_reader.specs.Fault.{fault_text}
-use Rattle.expr_reader.specs.declared.fault.ExprFault.{ExprFault}
-use Rattle.solr_streams.specs.Plans.{planned, plan_fault_text}
-use Rattle.solr_streams.specs.declared.plan.PlanFault.{PlanFault}
+use Rattle.tuple_values.specs.declared.names.NameShards.{NameShards}
+use Rattle.shard_versions.specs.declared.cut.CutPart.{CutPart}
+use Rattle.topic_book.specs.Fitness.{shards_of}
+use Rattle.exchange_rules.specs.Cells.{Log}
+use Rattle.exchange_rules.specs.Courses.{run_alone}
+use Rattle.exchange_rules.specs.Rows.{Layout, part_of}
+use Rattle.expr_plan.specs.ExprTree.{ExprTree}
+use Rattle.json_text.specs.Replies.{body}
+use Rattle.stream_site.specs.Plains.{empty_site, layout_of, writer_of}
+use Rattle.stream_handler.specs.Expressions.{collections, expression_of, list_of}
+use Rattle.stream_handler.specs.Outcomes.{exception}
+use Rattle.stream_handler.specs.Requests.{plain_course}
+use Rattle.stream_handler.specs.declared.outcome.Outcome.{Outcome}
+use Rattle.stream_handler.specs.declared.outcome.Outcome.TheVariants.{ResultSet}
 
--- a plan with the text of its fault
-abbrev pub told : Result Doc PlanFault → Result Doc ByteList
-told (Ok doc) = Ok doc
-told (Err fault) = Err (plan_fault_text fault)
+-- the parts of a cut that so many shards of a collection give, from this one on, with no entry
+abbrev pub empty_parts : ByteList → ℕ → ℕ → List CutPart
+empty_parts collection shard zero = []
+empty_parts collection shard (suc left) =
+    part_of collection shard [] ∷ empty_parts collection (shard + 1) left
 
--- what is planned of a call that was read, or the text of the fault
-abbrev pub plan_told : Result CallTree ExprFault → Result Doc ByteList
-plan_told (Ok c) = told (planned c)
-plan_told (Err fault) = Err (fault_text fault)
+-- the cut of these collections, where no shard has an entry
+abbrev pub empty_cut : List NameShards → List ByteList → List CutPart
+empty_cut names [] = []
+empty_cut names (c ∷ collections) =
+    empty_parts c 0 (shards_of names c) ++ empty_cut names collections
 
--- what the bytes of an expression mean: one tuple, or the text of their first fault
-abbrev pub meaning : ByteList → Result Doc ByteList
-meaning bytes = plan_told (read_of bytes)
+-- what an expression that was read and checked gives over empty collections, or its fault
+abbrev pub evaluated : List NameShards → Result ExprTree ByteList → Result (List Doc) ByteList
+evaluated names (Ok e) = Ok (list_of e (empty_cut names (collections e)))
+evaluated names (Err text) = Err text
+
+-- what the bytes of an expression mean over these collections, which are empty: tuples, or the text
+-- of their first fault
+abbrev pub meaning : List NameShards → ByteList → Result (List Doc) ByteList
+meaning names bytes = evaluated names (expression_of names bytes)
 
 -- the reply that tells a meaning, at the time 0
-abbrev pub reply_of : Result Doc ByteList → ByteList
-reply_of (Ok doc) = body (doc ∷ []) None 0
-reply_of (Err fault) = body [] (Some fault) 0
+abbrev pub reply_of : Result (List Doc) ByteList → ByteList
+reply_of (Ok docs) = body docs None 0
+reply_of (Err text) = body [] (Some text) 0
 
 -- the reply to the bytes of an expression
-abbrev pub reply : ByteList → ByteList
-reply bytes = reply_of (meaning bytes)
+abbrev pub reply : List NameShards → ByteList → ByteList
+reply names bytes = reply_of (meaning names bytes)
+
+-- what a request is answered that means this
+abbrev pub outcome_of : Result (List Doc) ByteList → Outcome
+outcome_of (Ok docs) = ResultSet docs None
+outcome_of (Err text) = exception text
+
+-- the greatest number of bytes that the entries of a shard may count
+abbrev pub shard_limit : ℕ
+shard_limit = 268435456
+
+-- the collections, with this limit on each shard
+abbrev pub layout : List NameShards → Layout
+layout names = layout_of (empty_site names shard_limit)
+
+-- what the writer of a new site has seen: an empty log for each cell
+abbrev pub logs_at_start : List NameShards → List Log
+logs_at_start names = (writer_of (empty_site names shard_limit)).seen
+
+-- what the expression is answered where its course runs alone, over those logs
+abbrev pub alone_outcome : List NameShards → ByteList → Outcome
+alone_outcome names bytes =
+    (run_alone 1 (logs_at_start names) (plain_course (layout names) (expression_of names bytes))).1

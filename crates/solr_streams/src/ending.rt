@@ -1,6 +1,9 @@
 // How a run ended, with its status and its line.
 ghost use Rattle.std.specs.Prelude.{◌≡◌};
-ghost use Rattle.solr_streams.specs.Endings.{status_of, line_of};
+ghost use Rattle.solr_streams.specs.Endings.{SaysLine, fixed_line, line_of, refused_line, status_of};
+
+use io_edge::{Put, Sink};
+use itoa::Buffer;
 
 /// How a run ended.
 #[derive(Clone, Copy, Debug, PartialEq, Eq)]
@@ -17,6 +20,10 @@ pub enum Ending {
     Faulty,
     /// Memory was wanting.
     OutOfMemory,
+    /// Input ended inside a message of a script.
+    InputCut,
+    /// A message of a script was refused with this status.
+    MessageRefused { status: u16 },
 }
 
 impl Ending {
@@ -30,19 +37,55 @@ impl Ending {
             Ending::WordsRefused => 2,
             Ending::Faulty => 3,
             Ending::OutOfMemory => 4,
+            Ending::InputCut | Ending::MessageRefused { .. } => 5,
         }
     }
 
-    /// The line for errors, empty where there is none.
-    pub fn line(self) -> &'static str
-        ensures { result.now ≡ line_of self }
+    // The line for errors where it is always the same, and empty for a message that was refused.
+    fn fixed_line(self) -> &'static str
+        ensures { result.now ≡ fixed_line self }
     {
         match self {
-            Ending::Done | Ending::Faulty => "",
+            Ending::Done | Ending::Faulty | Ending::MessageRefused { .. } => "",
             Ending::InputFailed => "fault: input\n",
             Ending::OutputFailed => "fault: output\n",
             Ending::WordsRefused => "words refused\n",
             Ending::OutOfMemory => "out of memory\n",
+            Ending::InputCut => "input cut\n",
         }
     }
+
+    /// Writes the line of the ending, where it has one. What fails is left.
+    pub fn say<E: Sink>(self, errors: &mut E)
+        ensures { SaysLine (E.written errors.old) (E.written errors.new)
+            (E.faults errors.old) (E.faults errors.new) (line_of self) }
+    {
+        match self {
+            Ending::MessageRefused { status } => say_refused(errors, status),
+            _ => say(errors, self.fixed_line().as_bytes()),
+        }
+    }
+}
+
+// Writes one piece.
+fn say<E: Sink>(errors: &mut E, line: &[u8])
+    ensures { SaysLine (E.written errors.old) (E.written errors.new)
+        (E.faults errors.old) (E.faults errors.new) line.now }
+{
+    let _ = errors.put(line);
+}
+
+// Writes the line of a message that was refused, until a piece fails.
+fn say_refused<E: Sink>(errors: &mut E, status: u16)
+    ensures { SaysLine (E.written errors.old) (E.written errors.new)
+        (E.faults errors.old) (E.faults errors.new) (refused_line status) }
+{
+    if let Put::Failed = errors.put(b"refused ") {
+        return;
+    }
+    let mut number = Buffer::new();
+    if let Put::Failed = errors.put(number.format(status).as_bytes()) {
+        return;
+    }
+    let _ = errors.put(b"\n");
 }

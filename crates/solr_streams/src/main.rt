@@ -2,10 +2,10 @@
 #![tactic(auto)]
 
 mod ending;
-mod evaluate;
+mod eval;
 mod input;
-mod plan;
 mod run;
+mod script;
 #[cfg(test)]
 mod tests;
 

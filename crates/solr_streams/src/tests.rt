@@ -129,13 +129,56 @@ fn a_fault_of_an_expression_is_told(rt: HostRuntime) -> Result<(), Fail> {
         ("", "Syntax at 0"),
         ("tuple(a=1", "Syntax at 9"),
         ("tuple(a==1)", "Syntax at 8"),
-        ("tuple(a=sum(b))", "NotYet 11"),
+        ("tuple(a=sum(b))", "BadParam tuple a"),
+        ("tuple(a=sum(b", "Syntax at 13"),
         ("foo(a=1)", "UnknownFunction foo"),
         ("foo(1)", "UnknownFunction foo"),
         ("tuple(a=1,7,a=2)", "BadParam tuple operand"),
         ("tuple(a=1,a=2,7)", "BadParam tuple a"),
     ] {
         let run = run_on(&rt, rt.alloc(), "eval", input.as_bytes(), Failing::Nothing)?;
+        assert_eq!(rt; run.status, 3, "at {input}");
+        assert!(rt; is_exception(run.output.bytes(), text), "at {input}");
+        assert_eq!(rt; run.errors.bytes().len(), 0, "at {input}");
+    }
+    Ok(())
+}
+
+// The reply with no tuple.
+const EMPTY: &[u8] = b"{\"result-set\":{\"docs\":[{\"EOF\":true,\"RESPONSE_TIME\":0}]}}";
+
+#[test]
+fn a_search_of_an_empty_collection_gives_no_tuple(rt: HostRuntime) -> Result<(), Fail> {
+    let input = b"search(c,q=\"*:*\",fl=\"id\",sort=\"id asc\")";
+    for words in ["eval c=2", "eval d=8 c=8"] {
+        let run = run_on(&rt, rt.alloc(), words, input, Failing::Nothing)?;
+        assert_eq!(rt; run.status, 0, "with {words}");
+        assert_eq!(rt; run.output.bytes(), EMPTY);
+        assert_eq!(rt; run.errors.bytes().len(), 0, "with {words}");
+    }
+    Ok(())
+}
+
+#[test]
+fn a_fault_of_a_search_is_told(rt: HostRuntime) -> Result<(), Fail> {
+    for (words, input, text) in [
+        (
+            "eval c=2",
+            "search(x,q=\"*:*\",fl=\"id\",sort=\"id asc\")",
+            "UnknownCollection x",
+        ),
+        (
+            "eval",
+            "search(c,q=\"*:*\",fl=\"id\",sort=\"id asc\")",
+            "UnknownCollection c",
+        ),
+        (
+            "eval c=1",
+            "search(c,q=\"*:*\",fl=\"id\")",
+            "MissingParam search sort",
+        ),
+    ] {
+        let run = run_on(&rt, rt.alloc(), words, input.as_bytes(), Failing::Nothing)?;
         assert_eq!(rt; run.status, 3, "at {input}");
         assert!(rt; is_exception(run.output.bytes(), text), "at {input}");
         assert_eq!(rt; run.errors.bytes().len(), 0, "at {input}");
@@ -182,7 +225,16 @@ fn check_line(rt: &impl Abort, run: &Ran, status: u8, line: &str) {
 
 #[test]
 fn other_words_are_refused(rt: HostRuntime) -> Result<(), Fail> {
-    for words in ["", "x", "eval x", "--help"] {
+    for words in [
+        "",
+        "x",
+        "eval x",
+        "eval c=0",
+        "eval c=1 c=1",
+        "script",
+        "script c=9",
+        "--help",
+    ] {
         let run = run_on(&rt, rt.alloc(), words, b"tuple()", Failing::Nothing)?;
         check_line(&rt, &run, 2, "words refused\n");
     }
@@ -197,6 +249,210 @@ fn a_failing_read_or_write_is_told(rt: HostRuntime) -> Result<(), Fail> {
         (Failing::Output(0), "fault: output\n"),
     ] {
         let run = run_on(&rt, rt.alloc(), "eval", b"tuple()", failing)?;
+        check_line(&rt, &run, 1, line);
+    }
+    Ok(())
+}
+
+// The requests of scripts and the responses to them.
+const UPDATED: &str =
+    "HTTP/1.1 200 OK\r\nContent-Type: application/json\r\nContent-Length: 41\r\n\r\n\
+     {\"responseHeader\":{\"status\":0,\"QTime\":0}}";
+
+const ONE: &str = "HTTP/1.1 200 OK\r\nContent-Type: application/json\r\nContent-Length: 75\r\n\r\n\
+     {\"result-set\":{\"docs\":[{\"id\":\"1\",\"n_i\":5},{\"EOF\":true,\"RESPONSE_TIME\":0}]}}";
+
+const NONE: &str = "HTTP/1.1 200 OK\r\nContent-Type: application/json\r\nContent-Length: 56\r\n\r\n\
+     {\"result-set\":{\"docs\":[{\"EOF\":true,\"RESPONSE_TIME\":0}]}}";
+
+const BOTH: &str = "HTTP/1.1 200 OK\r\nContent-Type: application/json\r\nContent-Length: 94\r\n\r\n\
+     {\"result-set\":{\"docs\":[{\"id\":\"2\",\"n_i\":5},{\"id\":\"3\",\"n_i\":5},{\"EOF\":true,\"RESPONSE_TIME\":0}]}}";
+
+const NOT_IN_FL: &str =
+    "HTTP/1.1 200 OK\r\nContent-Type: application/json\r\nContent-Length: 91\r\n\r\n\
+     {\"result-set\":{\"docs\":[{\"EOF\":true,\"EXCEPTION\":\"SortFieldNotInFl n_i\",\"RESPONSE_TIME\":0}]}}";
+
+const NO_ID: &str =
+    "HTTP/1.1 400 Bad Request\r\nContent-Type: application/json\r\nContent-Length: 79\r\n\r\n\
+     {\"responseHeader\":{\"status\":400,\"QTime\":0},\"error\":{\"msg\":\"NoId 0\",\"code\":400}}";
+
+const NOT_WHOLE: &str =
+    "HTTP/1.1 400 Bad Request\r\nContent-Type: application/json\r\nContent-Length: 87\r\n\r\n\
+     {\"responseHeader\":{\"status\":400,\"QTime\":0},\"error\":{\"msg\":\"NotWhole 0 n_i\",\"code\":400}}";
+
+const NO_DOCUMENT: &str =
+    "HTTP/1.1 400 Bad Request\r\nContent-Type: application/json\r\nContent-Length: 87\r\n\r\n\
+     {\"responseHeader\":{\"status\":400,\"QTime\":0},\"error\":{\"msg\":\"NotADocument 0\",\"code\":400}}";
+
+const NO_JSON: &str =
+    "HTTP/1.1 400 Bad Request\r\nContent-Type: application/json\r\nContent-Length: 80\r\n\r\n\
+     {\"responseHeader\":{\"status\":400,\"QTime\":0},\"error\":{\"msg\":\"NotJson\",\"code\":400}}";
+
+const TOO_LARGE: &str =
+    "HTTP/1.1 413 Payload Too Large\r\nContent-Type: application/json\r\nContent-Length: 85\r\nConnection: close\r\n\r\n\
+     {\"responseHeader\":{\"status\":413,\"QTime\":0},\"error\":{\"msg\":\"BodyTooLarge\",\"code\":413}}";
+
+const NO_METHOD: &str =
+    "HTTP/1.1 405 Method Not Allowed\r\nContent-Type: application/json\r\nContent-Length: 82\r\nConnection: close\r\n\r\n\
+     {\"responseHeader\":{\"status\":405,\"QTime\":0},\"error\":{\"msg\":\"BadMethod\",\"code\":405}}";
+
+const NO_PATH: &str =
+    "HTTP/1.1 404 Not Found\r\nContent-Type: application/json\r\nContent-Length: 83\r\nConnection: close\r\n\r\n\
+     {\"responseHeader\":{\"status\":404,\"QTime\":0},\"error\":{\"msg\":\"NoSuchPath\",\"code\":404}}";
+
+const LAST: &str =
+    "HTTP/1.1 200 OK\r\nContent-Type: application/json\r\nContent-Length: 56\r\nConnection: close\r\n\r\n\
+     {\"result-set\":{\"docs\":[{\"EOF\":true,\"RESPONSE_TIME\":0}]}}";
+
+const PUT: &str = "POST /solr/c/update HTTP/1.1\r\nHost: h\r\nContent-Length: 22\r\n\r\n\
+     [{\"id\":\"1\",\"n_i\":\"5\"}]";
+
+const PUT_AND_COMMIT: &str =
+    "POST /solr/c/update?commit=true HTTP/1.1\r\nHost: h\r\nContent-Length: 22\r\n\r\n\
+     [{\"id\":\"1\",\"n_i\":\"5\"}]";
+
+const COMMIT: &str = "GET /solr/c/update?commit=true HTTP/1.1\r\n\r\n";
+
+const SEARCH: &str =
+    "GET /solr/c/stream?expr=search(c,q%3D%22*:*%22,fl%3D%22id,n_i%22,sort%3D%22id+asc%22) HTTP/1.1\r\nHost: h\r\n\r\n\
+     ";
+
+const PUT_TWO: &str =
+    "POST /solr/c/update?commit=true HTTP/1.1\r\nHost: h\r\nContent-Length: 39\r\n\r\n\
+     [{\"id\":\"3\",\"n_i\":5},{\"id\":\"2\",\"n_i\":5}]";
+
+const SEARCH_ID: &str =
+    "GET /solr/c/stream?expr=search(c,q%3D%22n_i:5%22,fl%3D%22id%22,sort%3D%22n_i+asc%22) HTTP/1.1\r\n\r\n\
+     ";
+
+const SEARCH_BOTH: &str =
+    "GET /solr/c/stream?expr=search(c,q%3D%22n_i:5%22,fl%3D%22id,n_i%22,sort%3D%22n_i+asc%22) HTTP/1.1\r\n\r\n\
+     ";
+
+const BAD_ID: &str = "POST /solr/c/update HTTP/1.1\r\nHost: h\r\nContent-Length: 11\r\n\r\n\
+     [{\"n_i\":1}]";
+
+const BAD_NUMBER: &str = "POST /solr/c/update HTTP/1.1\r\nHost: h\r\nContent-Length: 22\r\n\r\n\
+     [{\"id\":\"1\",\"n_i\":1.5}]";
+
+const BAD_DOCUMENT: &str =
+    "POST /solr/c/update HTTP/1.1\r\nHost: h\r\nContent-Length: 3\r\n\r\n[1]";
+
+const BAD_JSON: &str = "POST /solr/c/update HTTP/1.1\r\nHost: h\r\nContent-Length: 1\r\n\r\n[";
+
+// Bytes in pieces, one behind another.
+fn joined(alloc: Global, pieces: &[&str]) -> Result<Bytes, Memory> {
+    let mut bytes = Bytes::new(alloc);
+    for piece in pieces {
+        bytes.extend(piece.as_bytes())?;
+    }
+    Ok(bytes)
+}
+
+// Whether a script over two shards answers these requests so, and ends with this status and line.
+fn answers<R: Threads + Sync>(
+    rt: &R,
+    alloc: Global,
+    requests: &[&str],
+    replies: &[&str],
+    status: u8,
+    line: &str,
+) -> Result<bool, Fail> {
+    let input = joined(alloc, requests)?;
+    let wanted = joined(alloc, replies)?;
+    let run = run_on(rt, alloc, "script c=2", input.as_slice(), Failing::Nothing)?;
+    Ok(
+        run.status == status
+            && run.output.bytes() == wanted.as_slice()
+            && run.errors.bytes() == line.as_bytes(),
+    )
+}
+
+#[test]
+fn a_script_updates_and_searches(rt: HostRuntime) -> Result<(), Fail> {
+    let alloc = rt.alloc();
+    let requests = [PUT_AND_COMMIT, SEARCH];
+    assert!(rt; answers(&rt, alloc, &requests, &[UPDATED, ONE], 0, "")?);
+    let later = [PUT, SEARCH, COMMIT, SEARCH];
+    assert!(rt; answers(&rt, alloc, &later, &[UPDATED, NONE, UPDATED, ONE], 0, "")?);
+    Ok(())
+}
+
+#[test]
+fn a_script_sorts_over_both_shards(rt: HostRuntime) -> Result<(), Fail> {
+    let alloc = rt.alloc();
+    let requests = [PUT_TWO, SEARCH_ID, SEARCH_BOTH];
+    assert!(rt; answers(&rt, alloc, &requests, &[UPDATED, NOT_IN_FL, BOTH], 0, "")?);
+    Ok(())
+}
+
+#[test]
+fn a_bad_body_is_told_and_the_script_goes_on(rt: HostRuntime) -> Result<(), Fail> {
+    let alloc = rt.alloc();
+    let requests = [BAD_ID, BAD_NUMBER, BAD_DOCUMENT, BAD_JSON, COMMIT];
+    let replies = [NO_ID, NOT_WHOLE, NO_DOCUMENT, NO_JSON, UPDATED];
+    assert!(rt; answers(&rt, alloc, &requests, &replies, 0, "")?);
+    Ok(())
+}
+
+// Requests, what they are answered, and the line at status 5.
+const STOPPED: [(&str, &str, &str); 4] = [
+    (
+        "POST /solr/c/update HTTP/1.1\r\nContent-Length: 8388609\r\n\r\n",
+        TOO_LARGE,
+        "refused 413\n",
+    ),
+    (
+        "PUT /solr/c/update HTTP/1.1\r\n\r\n",
+        NO_METHOD,
+        "refused 405\n",
+    ),
+    (
+        "GET /solr/zz/stream HTTP/1.1\r\n\r\n",
+        NO_PATH,
+        "refused 404\n",
+    ),
+    (
+        "POST /solr/c/update HTTP/1.1\r\nContent-Length: 9\r\n\r\n[{",
+        "",
+        "input cut\n",
+    ),
+];
+
+#[test]
+fn a_script_stops_at_what_is_refused_or_cut(rt: HostRuntime) -> Result<(), Fail> {
+    let alloc = rt.alloc();
+    for (request, reply, line) in STOPPED {
+        let found = answers(&rt, alloc, &[COMMIT, request], &[UPDATED, reply], 5, line)?;
+        assert!(rt; found, "with {line}");
+    }
+    Ok(())
+}
+
+const ASKING: &str = "POST /solr/c/update HTTP/1.1\r\nExpect: 100-continue\r\n\
+     Content-Length: 2\r\n\r\n[]";
+
+const CONTINUE: &str = "HTTP/1.1 100 Continue\r\n\r\n";
+
+const CLOSING_SEARCH: &str = "GET /solr/c/stream?expr=search(c,q%3D%22*:*%22,fl%3D%22id,n_i%22,\
+     sort%3D%22id+asc%22) HTTP/1.0\r\n\r\n";
+
+#[test]
+fn a_script_continues_and_closes(rt: HostRuntime) -> Result<(), Fail> {
+    let alloc = rt.alloc();
+    assert!(rt; answers(&rt, alloc, &[], &[], 0, "")?);
+    assert!(rt; answers(&rt, alloc, &[ASKING], &[CONTINUE, UPDATED], 0, "")?);
+    assert!(rt; answers(&rt, alloc, &[CLOSING_SEARCH, PUT], &[LAST], 0, "")?);
+    Ok(())
+}
+
+#[test]
+fn a_fault_of_a_script_is_told(rt: HostRuntime) -> Result<(), Fail> {
+    for (failing, line) in [
+        (Failing::Input(1), "fault: input\n"),
+        (Failing::Output(0), "fault: output\n"),
+    ] {
+        let run = run_on(&rt, rt.alloc(), "script c=2", COMMIT.as_bytes(), failing)?;
         check_line(&rt, &run, 1, line);
     }
     Ok(())

@@ -1,5 +1,4 @@
-use Rattle.std.proofs.Common.{◌≡◌, ◌≤◌, ◌++◌, ◌+◌, ◌<◌, length, take, drop, arith, length-append, length-take}
-use Rattle.solr_streams.specs.Inputs.{HasTaken, IsInput}
+use Rattle.std.proofs.Common.{◌++◌, take, drop, arith, length-append, length-take}
 use Rattle.solr_streams.proofs.TakingLemmas.{taken_more, taken_all, taken_full}
 use Rattle.solr_streams.proofs.input.read_input.Goals as goal
 use Rattle.solr_streams.proofs.input.read_input.Goals.{else-loop-room-test, then-loop-room-test+in-Ended}

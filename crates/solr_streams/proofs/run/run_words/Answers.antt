@@ -1,0 +1,9 @@
+use Rattle.command_words.specs.Commands.{command_of}
+use Rattle.solr_streams.proofs.WritingLemmas.{begun_told}
+use Rattle.solr_streams.proofs.run.run_words.Goals as goal
+
+pub returns-clause-begun : goal.returns-clause-begun
+returns-clause-begun g c =
+    begun_told c.run-ending.result (command_of c.args.words.now)
+    (g.I.Source.left c.args.input.now) (g.O.Sink.written c.args.output.now)
+    (g.O.Sink.written c.run-ending.new.output) c.run-ending.ensures.writes

@@ -1,0 +1,84 @@
+-- What `script` leaves on output: the replies to the requests of its input, each carried out alone
+-- over collections that begin empty (own).
+use Rattle.std.specs.Prelude.{◌≡◌, ℕ, ◌<◌, ◌⊎◌, Bool, false, List, [], ◌∷◌, ◌++◌, Option}
+use Rattle.io_edge.specs.Edge.{Appends}
+use Rattle.tuple_values.specs.Document.{ByteList}
+use Rattle.tuple_values.specs.declared.names.NameShards.{NameShards}
+use Rattle.exchange_rules.specs.Cells.{Log}
+use Rattle.exchange_rules.specs.Courses.{run_alone}
+use Rattle.exchange_rules.specs.Rows.{Layout}
+use Rattle.form_request.specs.Readings.{Reads}
+use Rattle.form_request.specs.Streams.{Held, begun}
+use Rattle.form_request.specs.declared.reading.After.{After}
+use Rattle.form_request.specs.declared.reading.After.TheVariants.{Refusal, Rest}
+use Rattle.form_request.specs.declared.reading.Message.{Message}
+use Rattle.stream_handler.specs.Outcomes.{reply_of}
+use Rattle.stream_handler.specs.Passing.{Passes, front_text, said}
+use Rattle.stream_handler.specs.Refusals.{refusal_reply}
+use Rattle.stream_handler.specs.Requests.{request_course}
+use Rattle.solr_streams.specs.Replies.{layout, logs_at_start}
+
+-- the replies to these messages, each with `100 Continue` before it where it asks for that: one
+-- writer carries out their requests alone, in order, each look is at the whole log, and all times
+-- are 0
+abbrev pub replies_alone : Layout → List Log → List Message → ByteList
+replies_alone l logs [] = []
+replies_alone l logs (m ∷ messages) =
+    (said m.asks ++ reply_of m.request.closes 0 (run_alone 1 logs (request_course l m.request)).1)
+    ++ replies_alone l (run_alone 1 logs (request_course l m.request)).0 messages
+
+-- what is written of what stands behind the last message
+abbrev pub tail_text : After → ByteList
+tail_text (Refusal status) = refusal_reply status
+tail_text (Rest held asks) = said asks
+
+-- the replies over new collections
+abbrev pub replies_over : List NameShards → List Message → ByteList
+replies_over names messages = replies_alone (layout names) (logs_at_start names) messages
+
+-- all that a script writes whose input holds these messages and then this
+abbrev pub script_text : List NameShards → List Message → After → ByteList
+script_text names messages after = replies_over names messages ++ tail_text after
+
+-- an input, which is told to have these bytes, holds messages and then this, and all that is to be
+-- written is written
+abbrev pub IsScriptRun : List NameShards → List ℕ → After → Option (List ℕ) → Option (List ℕ) → Type 0
+IsScriptRun names all after old new =
+    (messages : List Message) × Reads names all messages after
+    × Appends old new (script_text names messages after)
+
+-- such an input ends between messages or is closed by one
+abbrev pub IsCarriedThrough : List NameShards → List ℕ → Option (List ℕ) → Option (List ℕ) → Type 0
+IsCarriedThrough names all old new = (asks : Bool) × IsScriptRun names all (Rest 0 asks) old new
+
+-- it ends inside a message
+abbrev pub IsCutShort : List NameShards → List ℕ → Option (List ℕ) → Option (List ℕ) → Type 0
+IsCutShort names all old new =
+    (held : ℕ) × (asks : Bool) × (0 < held) × IsScriptRun names all (Rest held asks) old new
+
+-- one of its messages is refused with this status
+abbrev pub IsStoppedAt : List NameShards → ℕ → List ℕ → Option (List ℕ) → Option (List ℕ) → Type 0
+IsStoppedAt names status all old new = IsScriptRun names all (Refusal status) old new
+
+-- behind these messages of the bytes this text is written: of all that stands behind them, or, where
+-- they were not read to their end, of the message to which they lead
+abbrev pub IsBehind : List NameShards → List ℕ → List Message → ByteList → Type 0
+IsBehind names bytes messages text =
+    ((after : After) × Reads names bytes messages after × (text ≡ tail_text after))
+    ⊎ ((told : Bool) × (held : Held) × Passes names false begun bytes messages told held
+    × (text ≡ front_text held.stage told))
+
+-- some first bytes of such an input hold messages, and a first part of what is to be written of
+-- them is written
+pub record IsScriptBegun (names : List NameShards) (all : List ℕ) (old new : Option (List ℕ))
+    : Type 0 where
+  pub read : List ℕ
+  pub unread : List ℕ
+  pub all_is : all ≡ read ++ unread
+  pub messages : List Message
+  pub text : ByteList
+  pub behind : IsBehind names read messages text
+  pub front : ByteList
+  pub rest : ByteList
+  pub written : Appends old new front
+  pub begins : replies_over names messages ++ text ≡ front ++ rest
