@@ -1,5 +1,5 @@
 -- What a script has written, by what was served of its input.
-use Rattle.std.proofs.Common.{◌≡◌, ◌⊎◌, ◌≢◌, ℕ, false, List, [], ◌∷◌, ◌++◌, refl, sym, ap, ◌∙◌, subst, append_assoc, append-nil, inl, inr}
+use Rattle.std.proofs.Common.{◌≡◌, ◌⊎◌, ℕ, false, List, [], ◌∷◌, ◌++◌, refl, sym, ap, ◌∙◌, subst, append_assoc, append-nil, inl, inr}
 use Rattle.std.specs.Prelude.{Option, Some, None}
 use Rattle.tuple_values.specs.Document.{ByteList}
 use Rattle.tuple_values.specs.declared.names.NameShards.{NameShards}
@@ -32,11 +32,10 @@ use Rattle.stream_handler.specs.declared.outcome.Outcome.{Outcome}
 use Rattle.stream_handler.proofs.ServeLemmas.{sound_still}
 use Rattle.stream_handler.proofs.WaitLemmas.{said_first}
 use Rattle.std.proofs.lemmas.Grind.{flat_map-append}
-use Rattle.solr_streams.specs.Endings.{HasRisen, Writes, WritesFor}
+use Rattle.solr_streams.specs.Endings.{HasRisen, IsEndingOf, Writes, WritesFor}
 use Rattle.solr_streams.specs.Replies.{layout, logs_at_start}
 use Rattle.solr_streams.specs.Scripts.{IsScriptBegun, IsScriptRun, replies_alone, replies_over, tail_text}
 use Rattle.solr_streams.specs.Serving.{HasServed, ending_of}
-use Rattle.solr_streams.specs.declared.ending.Ending.TheVariants.{WordsRefused}
 
 -- where one writer is alone, the replies are a function of the messages
 alone_replies : (l : Layout) (seen : List Log) (had end : List ℕ) (answers : List Answer)
@@ -77,6 +76,11 @@ whole_came all bytes new came empty =
     let none : IsEmptied (Some came.0) = subst IsEmptied came.2 empty in
     sym (came.1 ∙ (ap (λ r. bytes ++ r) none ∙ append-nil bytes))
 
+-- none of what came was lost
+none_lost : (all : List ℕ) (left : Option (List ℕ)) (bytes : List ℕ) → Came (Some all) left bytes
+    → Came (Some all) left (bytes ++ [])
+none_lost all left bytes came = subst (Came (Some all) left) (sym (append-nil bytes)) came
+
 -- nothing is read behind a message that closes
 closed_reads : (names : List NameShards) (s : Stage) (bytes more : List ℕ) → s ≡ stage.Closed
     → HeldReads names false (fed_by s bytes more) [] nothing
@@ -104,29 +108,51 @@ module _ (names : List NameShards) (all : List ℕ) (reads : ℕ) (written : Opt
       (subst (λ ms. Reads names (p.bytes ++ p.came.0) ms after) (append-nil (messages_of answers))
       (p.passes.reads p.came.0 [] after (stays p.came.0)))
 
-  run_of : (after : After) → Reads names all (messages_of answers) after
+  -- nor where none does
+  here : (after : After) → (p : Passed names old new (messages_of answers) false)
+      → ((more : List ℕ) → HeldReads names false (fed new.held more) [] after)
+      → Reads names p.bytes (messages_of answers) after
+  here after p stays =
+      subst (λ b. Reads names b (messages_of answers) after) (append-nil p.bytes)
+      (subst (λ ms. Reads names (p.bytes ++ []) ms after) (append-nil (messages_of answers))
+      (p.passes.reads [] [] after (stays [])))
+
+  run_of : (after : After) (read : List ℕ) → Came (Some all) new.left read
+      → Reads names all (messages_of answers) after → Reads names read (messages_of answers) after
       → Appends written new.written (replies_of answers ++ tail_text after)
-      → IsScriptRun names all after written new.written
-  run_of after r app = (
-    messages_of answers,
-    r,
-    subst (λ t. Appends written new.written (t ++ tail_text after)) replies app,
-  )
+      → IsScriptRun names all new.left after written new.written
+  run_of after read came whole part app = record {
+    messages = messages_of answers;
+    holds = whole;
+    read = read;
+    came = came;
+    reads = part;
+    written = subst (λ t. Appends written new.written (t ++ tail_text after)) replies app;
+  }
+
+  -- a stream that stays where it is
+  run_past : (after : After) → (p : Passed names old new (messages_of answers) false)
+      → ((more : List ℕ) → HeldReads names false (fed new.held more) [] after)
+      → Appends written new.written (replies_of answers ++ tail_text after)
+      → IsScriptRun names all new.left after written new.written
+  run_past after p stays app =
+      run_of after p.bytes p.came (past after p stays) (here after p stays) app
 
   unfinished : (held : ℕ) → IsEmptied new.left → (q : IsUnfinished names old new answers held)
-      → IsScriptRun names all (Rest held q.asks) written new.written
+      → IsScriptRun names all new.left (Rest held q.asks) written new.written
   unfinished held empty q =
-      run_of (Rest held q.asks)
+      run_of (Rest held q.asks) q.stands.bytes q.stands.came
       (subst (λ b. Reads names b (messages_of answers) (Rest held q.asks))
-      (whole_came all q.stands.bytes new.left q.stands.came empty) q.stands.reads) q.written
+      (whole_came all q.stands.bytes new.left q.stands.came empty) q.stands.reads) q.stands.reads
+      q.written
 
   -- where it was not read to its end
   read_part : (held : ℕ) → IsUnfinished names old new answers held
-      → IsScriptBegun names all written new.written
+      → IsScriptBegun names all new.left written new.written
   read_part held q = record {
     read = q.stands.bytes;
-    unread = q.stands.came.0;
-    all_is = q.stands.came.1;
+    lost = [];
+    came = none_lost all new.left q.stands.bytes q.stands.came;
     messages = messages_of answers;
     text = said q.asks;
     behind = inl (Rest held q.asks, q.stands.reads, refl);
@@ -136,11 +162,11 @@ module _ (names : List NameShards) (all : List ℕ) (reads : ℕ) (written : Opt
     begins = ap (λ t. t ++ said q.asks) (sym replies) ∙ sym (append-nil (replies_of answers ++ said q.asks));
   }
 
-  stuck_part : IsStuck names old new answers → IsScriptBegun names all written new.written
+  stuck_part : IsStuck names old new answers → IsScriptBegun names all new.left written new.written
   stuck_part q = record {
     read = q.passed.bytes;
-    unread = q.passed.came.0;
-    all_is = q.passed.came.1;
+    lost = [];
+    came = none_lost all new.left q.passed.bytes q.passed.came;
     messages = messages_of answers;
     text = front_text new.held.stage q.told;
     behind = inr (q.told, new.held, q.passed.passes, refl);
@@ -151,13 +177,13 @@ module _ (names : List NameShards) (all : List ℕ) (reads : ℕ) (written : Opt
         ∙ (ap (λ t. replies_of answers ++ t) q.is ∙ sym (append_assoc (replies_of answers) q.part q.rest));
   }
 
-  lost_part : IsLost names old new answers → IsScriptBegun names all written new.written
+  lost_part : IsLost names old new answers → IsScriptBegun names all new.left written new.written
   lost_part q =
       let more = said_first new.held.stage q.told q.passes.fits in
       record {
         read = q.bytes;
-        unread = q.lost ++ q.came.0;
-        all_is = q.came.1 ∙ append_assoc q.bytes q.lost q.came.0;
+        lost = q.lost;
+        came = q.came;
         messages = messages_of answers;
         text = front_text new.held.stage q.told;
         behind = inr (q.told, new.held, q.passes, refl);
@@ -179,13 +205,13 @@ module _ (names : List NameShards) (all : List ℕ) (reads : ℕ) (written : Opt
       ∙ (ap (λ t. replies_of q.before ++ t) (append-nil (reply_to q.last) ∙ q.is)
       ∙ sym (append_assoc (replies_of q.before) q.part q.rest))))
 
-  cut_part : IsCutOff names old new answers → IsScriptBegun names all written new.written
+  cut_part : IsCutOff names old new answers → IsScriptBegun names all new.left written new.written
   cut_part q =
       let text = front_text new.held.stage false in
       record {
         read = q.passed.bytes;
-        unread = q.passed.came.0;
-        all_is = q.passed.came.1;
+        lost = [];
+        came = none_lost all new.left q.passed.bytes q.passed.came;
         messages = messages_of answers;
         text = text;
         behind = inr (false, new.held, q.passed.passes, refl);
@@ -197,26 +223,25 @@ module _ (names : List NameShards) (all : List ℕ) (reads : ℕ) (written : Opt
       }
 
   broken_part : IsStuck names old new answers ⊎ IsCutOff names old new answers
-      → IsScriptBegun names all written new.written
+      → IsScriptBegun names all new.left written new.written
   broken_part (inl k) = stuck_part k
   broken_part (inr k) = cut_part k
 
   -- how a script ended, by what was served
   pub wire_writes : (e : End) → (e ≡ end.Closed → new.held.stage ≡ stage.Closed)
       → WireEnds names old new answers e
-      → WritesFor (ending_of e) (Some (Script names)) all written new.written
+      → WritesFor (ending_of e) (Some (Script names)) all new.left written new.written
   wire_writes end.Ended closed q = (q.1.asks, unfinished 0 q.0 q.1)
   wire_writes end.Closed closed q = (
     false,
-    run_of nothing
-        (past nothing q.0 (λ more. closed_reads names new.held.stage new.held.bytes more (closed refl)))
+    run_past nothing q.0
+        (λ more. closed_reads names new.held.stage new.held.bytes more (closed refl))
         (subst (λ t. Appends written new.written t) (sym (append-nil (replies_of answers))) q.1),
   )
   wire_writes (end.Cut held) closed q = (held, q.2.asks, q.1, unfinished held q.0 q.2)
   wire_writes (end.Refused status) closed q =
-      run_of (Refusal status)
-      (past (Refusal status) q.0
-      (λ more. stopped_reads names new.held.stage new.held.bytes more status q.1)) q.2
+      run_past (Refusal status) q.0
+      (λ more. stopped_reads names new.held.stage new.held.bytes more status q.1) q.2
   wire_writes end.ReadFault closed q = read_part q.1.0 q.1.1
   wire_writes end.WriteFault closed q = broken_part q.1
   wire_writes end.OutOfMemory closed q = lost_part q
@@ -224,14 +249,14 @@ module _ (names : List NameShards) (all : List ℕ) (reads : ℕ) (written : Opt
   -- where memory was wanting inside a request
   pub begun_part : (m : Message) → Passed names old new (messages_of answers ++ m ∷ []) false
       → Appends written new.written (replies_of answers ++ said m.asks)
-      → IsScriptBegun names all written new.written
+      → IsScriptBegun names all new.left written new.written
   begun_part m p app =
       let more = replies_more (layout names) (logs_at_start names) (messages_of answers) m in
       let text = front_text new.held.stage false in
       record {
         read = p.bytes;
-        unread = p.came.0;
-        all_is = p.came.1;
+        lost = [];
+        came = none_lost all new.left p.bytes p.came;
         messages = messages_of answers ++ m ∷ [];
         text = text;
         behind = inr (false, new.held, p.passes, refl);
@@ -263,12 +288,12 @@ module _ (names : List NameShards) (all : List ℕ) (reads : ℕ) (written : Opt
   session_writes : (e : End)
       → HasServed (layout names) (wire begun (Some all) reads written writes) new
       (writer_of (empty_site names 268435456)) v e
-      → WritesFor (ending_of e) (Some (Script names)) all written new.written
+      → WritesFor (ending_of e) (Some (Script names)) all new.left written new.written
   session_writes e s = by_ends s.session.over.ends
     where
       by_ends : EndsBy (layout names) (wire begun (Some all) reads written writes) new
           (writer_of (empty_site names 268435456)) v s.session.answers (record_of v) e
-          → WritesFor (ending_of e) (Some (Script names)) all written new.written
+          → WritesFor (ending_of e) (Some (Script names)) all new.left written new.written
       by_ends (inl i) =
           wire_writes names all reads written writes new s.session.answers
           (alone_of names v v s.session.answers alone i.exchanged (λ l sound. sound)
@@ -279,7 +304,7 @@ module _ (names : List NameShards) (all : List ℕ) (reads : ℕ) (written : Opt
           (λ l sound. sound_still l 1 b.1.mid.seen v.seen (counts (logs_at_start names))
           (counts b.1.mid.seen) s.session.answers b.1.grown sound)
           (shown_old (logs_at_start names) v.seen grown) in
-          subst (λ e. WritesFor (ending_of e) (Some (Script names)) all written new.written) (sym b.0)
+          subst (λ e. WritesFor (ending_of e) (Some (Script names)) all new.left written new.written) (sym b.0)
           (begun_part names all reads written writes new s.session.answers replies b.1.message b.1.passed
           b.1.written)
 
@@ -288,7 +313,7 @@ pub script_writes : (names : List NameShards) (p q : Plain) (held : Held) (left 
     (written : Option (List ℕ)) (writes : ℕ) (new : Wire) (e : End) → p ≡ empty_site names 268435456
     → held ≡ begun → ((had : List ℕ) → IsAlone 1 had (writer_of q).seen)
     → HasServed (layout_of p) (wire held left reads written writes) new (writer_of p) (writer_of q) e
-    → Writes (ending_of e) (Some (Script names)) left written new.written
+    → Writes (ending_of e) (Some (Script names)) left new.left written new.written
 script_writes names p q held None reads written writes new e is start alone s = tt
 script_writes names p q held (Some all) reads written writes new e is start alone s =
     session_writes names all reads written writes new (writer_of q) alone e
@@ -297,15 +322,15 @@ script_writes names p q held (Some all) reads written writes new e is start alon
     (subst (λ p. HasServed (layout_of p) (wire held (Some all) reads written writes) new (writer_of p)
     (writer_of q) e) is s))
 
--- words are refused by no script
-pub served_words : (e : End) → ending_of e ≢ WordsRefused
-served_words end.Ended = λ x. cc
-served_words end.Closed = λ x. cc
-served_words (end.Cut held) = λ x. cc
-served_words (end.Refused status) = λ x. cc
-served_words end.ReadFault = λ x. cc
-served_words end.WriteFault = λ x. cc
-served_words end.OutOfMemory = λ x. cc
+-- how a script ends
+pub script_ending : (names : List NameShards) (e : End) → IsEndingOf (Script names) (ending_of e)
+script_ending names end.Ended = tt
+script_ending names end.Closed = tt
+script_ending names (end.Cut held) = tt
+script_ending names (end.Refused status) = tt
+script_ending names end.ReadFault = tt
+script_ending names end.WriteFault = tt
+script_ending names end.OutOfMemory = tt
 
 -- a fault is told where its count rose
 pub served_risen : (l : Layout) (old new : Wire) (w v : Writer) (e : End) → HasServed l old new w v e

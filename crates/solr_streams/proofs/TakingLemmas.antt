@@ -1,6 +1,6 @@
 -- What has been taken from a source, piece by piece.
 use Rattle.std.proofs.Common.{◌≡◌, ℕ, ◌+◌, ◌≤◌, List, [], ◌++◌, length, take, drop, Option, Some, None, refl, ap, sym, ◌∙◌, subst, arith, length-append, length-drop, length-take}
-use Rattle.std.proofs.lemmas.List.{drop-drop, take-append-le, take_all}
+use Rattle.std.proofs.lemmas.List.{drop-drop, take-append-le, take_all, drop_all}
 use Rattle.std.proofs.Math.Seq.{take-add}
 use Rattle.io_edge.specs.Edge.{GivesFront, HasEnded}
 use Rattle.solr_streams.specs.Inputs.{limit, HasTaken, IsInput}
@@ -22,13 +22,21 @@ taken_more (Some all) mid new bytes room rest n h g fits =
     let same : bytes ++ take n (room ++ rest) ≡ take (k + n) all = ap (λ p. bytes ++ p) piece ∙ ap (λ b. b ++ take n (drop k all)) h.1 ∙ sym (take-add k n all) in
     rw long (omega (arith, left, g'.0), same, g'.2 ∙ ap Some (drop-drop n k all))
 
-pub taken_all : (old mid : Option (List ℕ)) (bytes : List ℕ) → HasTaken old mid bytes → HasEnded mid → length bytes ≤ 65537 → IsInput old bytes
+pub taken_all : (old mid : Option (List ℕ)) (bytes : List ℕ) → HasTaken old mid bytes → HasEnded mid → length bytes ≤ 65537
+    → IsInput old mid bytes
 taken_all None mid bytes h e small = tt
 taken_all (Some all) mid bytes h e small =
     let e' : drop (length bytes) all ≡ [] = subst (λ m. HasEnded m) h.2 e in
     let whole : length all ≤ length bytes = omega (arith, length-drop (length bytes) all, ap length e') in
-    h.1 ∙ take_all (length bytes) all whole ∙ sym (take_all limit all (omega (arith, limit-is, whole, small)))
+    let short : length all ≤ limit = omega (arith, limit-is, whole, small) in (
+      h.1 ∙ take_all (length bytes) all whole ∙ sym (take_all limit all short),
+      h.2 ∙ ap Some (e' ∙ sym (drop_all limit all short)),
+    )
 
-pub taken_full : (old mid : Option (List ℕ)) (bytes : List ℕ) → HasTaken old mid bytes → length bytes ≡ 65537 → IsInput old bytes
+pub taken_full : (old mid : Option (List ℕ)) (bytes : List ℕ) → HasTaken old mid bytes → length bytes ≡ 65537
+    → IsInput old mid bytes
 taken_full None mid bytes h full = tt
-taken_full (Some all) mid bytes h full = h.1 ∙ ap (λ k. take k all) (full ∙ sym limit-is)
+taken_full (Some all) mid bytes h full = (
+  h.1 ∙ ap (λ k. take k all) (full ∙ sym limit-is),
+  h.2 ∙ ap (λ k. Some (drop k all)) (full ∙ sym limit-is),
+)

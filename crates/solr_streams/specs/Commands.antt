@@ -4,7 +4,7 @@ use Rattle.tuple_values.specs.Document.{ByteList}
 use Rattle.command_words.specs.Commands.{command_of}
 use Rattle.command_words.specs.declared.command.Command.{Command}
 use Rattle.command_words.specs.declared.command.Command.TheVariants.{Eval, Script}
-use Rattle.solr_streams.specs.Evaluations.{IsEvaluated, IsFaultTold, IsReplyBegun}
+use Rattle.solr_streams.specs.Evaluations.{IsEvaluated, IsFaultTold, IsReplyWithin}
 use Rattle.solr_streams.specs.Scripts.{IsCarriedThrough, IsCutShort, IsScriptBegun, IsStoppedAt}
 
 -- there is a command
@@ -16,43 +16,61 @@ IsThere (Some command) = Unit {0}
 abbrev pub IsCommand : List ByteList → Type 0
 IsCommand words = IsThere (command_of words)
 
--- all that the command is to write is written, for an input that is told to have these bytes
-abbrev pub IsAnswered : Option Command → List ℕ → Option (List ℕ) → Option (List ℕ) → Type 0
-IsAnswered None all old new = ⊥
-IsAnswered (Some (Eval names)) all old new = IsEvaluated names all old new
-IsAnswered (Some (Script names)) all old new = IsCarriedThrough names all old new
+-- it is an expression's
+abbrev pub IsEval : Command → Type 0
+IsEval (Eval names) = Unit {0}
+IsEval (Script names) = ⊥
+
+-- it is a script
+abbrev pub IsScript : Command → Type 0
+IsScript (Eval names) = ⊥
+IsScript (Script names) = Unit {0}
+
+-- all that the command is to write is written, for an input that was told to have
+-- these bytes and has these left
+abbrev pub IsAnswered : Option Command → List ℕ → Option (List ℕ) → Option (List ℕ)
+    → Option (List ℕ) → Type 0
+IsAnswered None all left old new = ⊥
+IsAnswered (Some (Eval names)) all left old new = IsEvaluated names all left old new
+IsAnswered (Some (Script names)) all left old new = IsCarriedThrough names all left old new
 
 -- the first fault of such an input is told
-abbrev pub IsRefused : Option Command → List ℕ → Option (List ℕ) → Option (List ℕ) → Type 0
-IsRefused None all old new = ⊥
-IsRefused (Some (Eval names)) all old new = IsFaultTold names all old new
-IsRefused (Some (Script names)) all old new = ⊥
+abbrev pub IsRefused : Option Command → List ℕ → Option (List ℕ) → Option (List ℕ)
+    → Option (List ℕ) → Type 0
+IsRefused None all left old new = ⊥
+IsRefused (Some (Eval names)) all left old new = IsFaultTold names all left old new
+IsRefused (Some (Script names)) all left old new = ⊥
 
 -- a first part of one or the other is written, and nothing where there is no command
-abbrev pub IsBegun : Option Command → List ℕ → Option (List ℕ) → Option (List ℕ) → Type 0
-IsBegun None all old new = new ≡ old
-IsBegun (Some (Eval names)) all old new = IsReplyBegun names all old new
-IsBegun (Some (Script names)) all old new = IsScriptBegun names all old new
+abbrev pub IsBegun : Option Command → List ℕ → Option (List ℕ) → Option (List ℕ)
+    → Option (List ℕ) → Type 0
+IsBegun None all left old new = new ≡ old
+IsBegun (Some (Eval names)) all left old new = IsReplyWithin names all left old new
+IsBegun (Some (Script names)) all left old new = IsScriptBegun names all left old new
 
 -- where a run stops before it has written all: `eval` has written nothing, a script a first part
-abbrev pub IsLeft : Option Command → List ℕ → Option (List ℕ) → Option (List ℕ) → Type 0
-IsLeft None all old new = new ≡ old
-IsLeft (Some (Eval names)) all old new = new ≡ old
-IsLeft (Some (Script names)) all old new = IsScriptBegun names all old new
+abbrev pub IsLeft : Option Command → List ℕ → Option (List ℕ) → Option (List ℕ)
+    → Option (List ℕ) → Type 0
+IsLeft None all left old new = new ≡ old
+IsLeft (Some (Eval names)) all left old new = new ≡ old
+IsLeft (Some (Script names)) all left old new = IsScriptBegun names all left old new
 
 -- such an input ends inside a message of a script
-abbrev pub IsCut : Option Command → List ℕ → Option (List ℕ) → Option (List ℕ) → Type 0
-IsCut None all old new = ⊥
-IsCut (Some (Eval names)) all old new = ⊥
-IsCut (Some (Script names)) all old new = IsCutShort names all old new
+abbrev pub IsCut : Option Command → List ℕ → Option (List ℕ) → Option (List ℕ)
+    → Option (List ℕ) → Type 0
+IsCut None all left old new = ⊥
+IsCut (Some (Eval names)) all left old new = ⊥
+IsCut (Some (Script names)) all left old new = IsCutShort names all left old new
 
 -- a message of a script is refused with this status
-abbrev pub IsStopped : Option Command → ℕ → List ℕ → Option (List ℕ) → Option (List ℕ) → Type 0
-IsStopped None status all old new = ⊥
-IsStopped (Some (Eval names)) status all old new = ⊥
-IsStopped (Some (Script names)) status all old new = IsStoppedAt names status all old new
+abbrev pub IsStopped : Option Command → ℕ → List ℕ → Option (List ℕ) → Option (List ℕ)
+    → Option (List ℕ) → Type 0
+IsStopped None status all left old new = ⊥
+IsStopped (Some (Eval names)) status all left old new = ⊥
+IsStopped (Some (Script names)) status all left old new = IsStoppedAt names status all left old new
 
 -- it ends inside a message, or one of its messages is refused
-abbrev pub IsShort : Option Command → List ℕ → Option (List ℕ) → Option (List ℕ) → Type 0
-IsShort command all old new =
-    IsCut command all old new ⊎ ((status : ℕ) × IsStopped command status all old new)
+abbrev pub IsShort : Option Command → List ℕ → Option (List ℕ) → Option (List ℕ)
+    → Option (List ℕ) → Type 0
+IsShort command all left old new =
+    IsCut command all left old new ⊎ ((status : ℕ) × IsStopped command status all left old new)

@@ -1,10 +1,12 @@
 -- How a run may end: its status, its line, what it has written, and why (own).
-use Rattle.std.specs.Prelude.{◌≡◌, ℕ, ◌⊎◌, ◌++◌, List, [], codes, Option, IfSome}
+use Rattle.std.specs.Prelude.{◌≡◌, ℕ, ◌⊎◌, ◌++◌, List, [], codes, Option, Some, None, IfSome}
 use Rattle.std.specs.Fmt.{decimal}
 use Rattle.io_edge.specs.Edge.{Appends, AppendsPrefix, Rose}
 use Rattle.tuple_values.specs.Document.{ByteList}
+use Rattle.command_words.specs.Commands.{command_of}
 use Rattle.command_words.specs.declared.command.Command.{Command}
-use Rattle.solr_streams.specs.Commands.{IsCommand, IsAnswered, IsRefused, IsBegun, IsCut, IsLeft, IsStopped}
+use Rattle.command_words.specs.declared.command.Command.TheVariants.{Eval, Script}
+use Rattle.solr_streams.specs.Commands.{IsAnswered, IsRefused, IsBegun, IsCut, IsLeft, IsStopped, IsEval, IsScript}
 use Rattle.solr_streams.specs.declared.ending.Ending.{Ending}
 use Rattle.solr_streams.specs.declared.ending.Ending.TheVariants.{Done, InputFailed, OutputFailed, WordsRefused, Faulty, OutOfMemory, InputCut, MessageRefused}
 
@@ -45,22 +47,23 @@ fixed_line OutOfMemory = codes "out of memory\n"
 fixed_line InputCut = codes "input cut\n"
 fixed_line (MessageRefused status) = []
 
--- what a command has written at an ending, for an input that is told to have these bytes
+-- what a command has written at an ending, for an input that was told to have these bytes and has
+-- these left
 abbrev pub WritesFor : Ending → Option Command → List ℕ → Option (List ℕ) → Option (List ℕ)
-    → Type 0
-WritesFor Done command all old new = IsAnswered command all old new
-WritesFor InputFailed command all old new = IsLeft command all old new
-WritesFor OutputFailed command all old new = IsBegun command all old new
-WritesFor WordsRefused command all old new = new ≡ old
-WritesFor Faulty command all old new = IsRefused command all old new
-WritesFor OutOfMemory command all old new = IsLeft command all old new
-WritesFor InputCut command all old new = IsCut command all old new
-WritesFor (MessageRefused status) command all old new = IsStopped command status all old new
+    → Option (List ℕ) → Type 0
+WritesFor Done command all left old new = IsAnswered command all left old new
+WritesFor InputFailed command all left old new = IsLeft command all left old new
+WritesFor OutputFailed command all left old new = IsBegun command all left old new
+WritesFor WordsRefused command all left old new = new ≡ old
+WritesFor Faulty command all left old new = IsRefused command all left old new
+WritesFor OutOfMemory command all left old new = IsLeft command all left old new
+WritesFor InputCut command all left old new = IsCut command all left old new
+WritesFor (MessageRefused status) command all left old new = IsStopped command status all left old new
 
 -- the same, where the input tells its bytes
-abbrev pub Writes : Ending → Option Command → Option (List ℕ) → Option (List ℕ)
+abbrev pub Writes : Ending → Option Command → Option (List ℕ) → Option (List ℕ) → Option (List ℕ)
     → Option (List ℕ) → Type 0
-Writes end command left old new = IfSome left (λ all. WritesFor end command all old new)
+Writes end command had left old new = IfSome had (λ all. WritesFor end command all left old new)
 
 -- how often input and output had failed before, and have failed after
 pub record Counts : Type 0 where
@@ -80,16 +83,32 @@ HasRisen OutOfMemory counts = Unit {0}
 HasRisen InputCut counts = Unit {0}
 HasRisen (MessageRefused status) counts = Unit {0}
 
--- the words are no command exactly where they are refused
+-- how the run of a command may end: only an expression has a fault, and only a script is cut short
+-- or stopped
+abbrev pub IsEndingOf : Command → Ending → Type 0
+IsEndingOf command Done = Unit {0}
+IsEndingOf command InputFailed = Unit {0}
+IsEndingOf command OutputFailed = Unit {0}
+IsEndingOf command WordsRefused = ⊥
+IsEndingOf command Faulty = IsEval command
+IsEndingOf command OutOfMemory = Unit {0}
+IsEndingOf command InputCut = IsScript command
+IsEndingOf command (MessageRefused status) = IsScript command
+
+-- the same, where the words may be no command, and are refused exactly then
+abbrev pub EndsFor : Option Command → Ending → Type 0
+EndsFor None end = end ≡ WordsRefused
+EndsFor (Some command) end = IsEndingOf command end
+
+-- the words are those of such an ending
 abbrev pub HasWords : Ending → List ByteList → Type 0
-HasWords Done words = IsCommand words
-HasWords InputFailed words = IsCommand words
-HasWords OutputFailed words = IsCommand words
-HasWords WordsRefused words = ¬ (IsCommand words)
-HasWords Faulty words = IsCommand words
-HasWords OutOfMemory words = IsCommand words
-HasWords InputCut words = IsCommand words
-HasWords (MessageRefused status) words = IsCommand words
+HasWords end words = EndsFor (command_of words) end
+
+-- the status with which a command ends where neither input nor output failed
+abbrev pub IsCompletion : Option Command → ℕ → Type 0
+IsCompletion None status = ⊥
+IsCompletion (Some (Eval names)) status = (status ≡ 0) ⊎ (status ≡ 3) ⊎ (status ≡ 4)
+IsCompletion (Some (Script names)) status = (status ≡ 0) ⊎ (status ≡ 4) ⊎ (status ≡ 5)
 
 -- why a run ended so: the words, and a count of faults that rose
 abbrev pub HasCause : Ending → List ByteList → Counts → Type 0

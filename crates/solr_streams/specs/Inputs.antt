@@ -12,7 +12,12 @@ HasTaken (Some all) new bytes =
     (length bytes ≤ length all) × (bytes ≡ take (length bytes) all)
     × (new ≡ Some (drop (length bytes) all))
 
--- the bytes are all that the source had left, or the first of them, where it tells
-abbrev pub IsInput : Option (List ℕ) → List ℕ → Type 0
-IsInput None bytes = Unit {0}
-IsInput (Some all) bytes = bytes ≡ take limit all
+-- the input was read to its end, or so far
+abbrev pub IsReadOut : List ℕ → Option (List ℕ) → Type 0
+IsReadOut all left = left ≡ Some (drop limit all)
+
+-- the bytes are all that the source had left, or the first of them, where it tells, and no more were
+-- taken
+abbrev pub IsInput : Option (List ℕ) → Option (List ℕ) → List ℕ → Type 0
+IsInput None left bytes = Unit {0}
+IsInput (Some all) left bytes = (bytes ≡ take limit all) × IsReadOut all left

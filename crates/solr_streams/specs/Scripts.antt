@@ -1,6 +1,6 @@
 -- What `script` leaves on output: the replies to the requests of its input, each carried out alone
 -- over collections that begin empty (own).
-use Rattle.std.specs.Prelude.{◌≡◌, ℕ, ◌<◌, ◌⊎◌, Bool, false, List, [], ◌∷◌, ◌++◌, Option}
+use Rattle.std.specs.Prelude.{◌≡◌, ℕ, ◌<◌, ◌⊎◌, Bool, false, List, [], ◌∷◌, ◌++◌, Option, Some}
 use Rattle.io_edge.specs.Edge.{Appends}
 use Rattle.tuple_values.specs.Document.{ByteList}
 use Rattle.tuple_values.specs.declared.names.NameShards.{NameShards}
@@ -16,6 +16,7 @@ use Rattle.stream_handler.specs.Outcomes.{reply_of}
 use Rattle.stream_handler.specs.Passing.{Passes, front_text, said}
 use Rattle.stream_handler.specs.Refusals.{refusal_reply}
 use Rattle.stream_handler.specs.Requests.{request_course}
+use Rattle.stream_handler.specs.Sessions.{Came}
 use Rattle.solr_streams.specs.Replies.{layout, logs_at_start}
 
 -- the replies to these messages, each with `100 Continue` before it where it asks for that: one
@@ -40,25 +41,33 @@ replies_over names messages = replies_alone (layout names) (logs_at_start names)
 abbrev pub script_text : List NameShards → List Message → After → ByteList
 script_text names messages after = replies_over names messages ++ tail_text after
 
--- an input, which is told to have these bytes, holds messages and then this, and all that is to be
--- written is written
-abbrev pub IsScriptRun : List NameShards → List ℕ → After → Option (List ℕ) → Option (List ℕ) → Type 0
-IsScriptRun names all after old new =
-    (messages : List Message) × Reads names all messages after
-    × Appends old new (script_text names messages after)
+-- an input, which was told to have these bytes, holds messages and then this, as do those bytes of it
+-- that were taken, and all that is to be written is written
+pub record IsScriptRun (names : List NameShards) (all : List ℕ) (left : Option (List ℕ)) (after : After)
+    (old new : Option (List ℕ)) : Type 0 where
+  pub messages : List Message
+  pub holds : Reads names all messages after
+  pub read : List ℕ
+  pub came : Came (Some all) left read
+  pub reads : Reads names read messages after
+  pub written : Appends old new (script_text names messages after)
 
 -- such an input ends between messages or is closed by one
-abbrev pub IsCarriedThrough : List NameShards → List ℕ → Option (List ℕ) → Option (List ℕ) → Type 0
-IsCarriedThrough names all old new = (asks : Bool) × IsScriptRun names all (Rest 0 asks) old new
+abbrev pub IsCarriedThrough : List NameShards → List ℕ → Option (List ℕ) → Option (List ℕ)
+    → Option (List ℕ) → Type 0
+IsCarriedThrough names all left old new =
+    (asks : Bool) × IsScriptRun names all left (Rest 0 asks) old new
 
 -- it ends inside a message
-abbrev pub IsCutShort : List NameShards → List ℕ → Option (List ℕ) → Option (List ℕ) → Type 0
-IsCutShort names all old new =
-    (held : ℕ) × (asks : Bool) × (0 < held) × IsScriptRun names all (Rest held asks) old new
+abbrev pub IsCutShort : List NameShards → List ℕ → Option (List ℕ) → Option (List ℕ)
+    → Option (List ℕ) → Type 0
+IsCutShort names all left old new =
+    (held : ℕ) × (asks : Bool) × (0 < held) × IsScriptRun names all left (Rest held asks) old new
 
 -- one of its messages is refused with this status
-abbrev pub IsStoppedAt : List NameShards → ℕ → List ℕ → Option (List ℕ) → Option (List ℕ) → Type 0
-IsStoppedAt names status all old new = IsScriptRun names all (Refusal status) old new
+abbrev pub IsStoppedAt : List NameShards → ℕ → List ℕ → Option (List ℕ) → Option (List ℕ)
+    → Option (List ℕ) → Type 0
+IsStoppedAt names status all left old new = IsScriptRun names all left (Refusal status) old new
 
 -- behind these messages of the bytes this text is written: of all that stands behind them, or, where
 -- they were not read to their end, of the message to which they lead
@@ -68,13 +77,13 @@ IsBehind names bytes messages text =
     ⊎ ((told : Bool) × (held : Held) × Passes names false begun bytes messages told held
     × (text ≡ front_text held.stage told))
 
--- some first bytes of such an input hold messages, and a first part of what is to be written of
--- them is written
-pub record IsScriptBegun (names : List NameShards) (all : List ℕ) (old new : Option (List ℕ))
+-- the bytes that were taken of such an input, but perhaps for the last of them, hold messages, and a
+-- first part of what is to be written of them is written
+pub record IsScriptBegun (names : List NameShards) (all : List ℕ) (left old new : Option (List ℕ))
     : Type 0 where
   pub read : List ℕ
-  pub unread : List ℕ
-  pub all_is : all ≡ read ++ unread
+  pub lost : List ℕ
+  pub came : Came (Some all) left (read ++ lost)
   pub messages : List Message
   pub text : ByteList
   pub behind : IsBehind names read messages text

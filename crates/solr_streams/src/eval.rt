@@ -1,7 +1,7 @@
 // The command `eval`: one expression over collections that are empty.
-ghost use Rattle.std.specs.Prelude.{◌≡◌, ◌≢◌, IfOk, Some};
+ghost use Rattle.std.specs.Prelude.{◌≡◌, IfOk, Some};
 ghost use Rattle.command_words.specs.declared.command.Command.TheVariants.{Eval};
-ghost use Rattle.solr_streams.specs.Endings.{HasRisen, Writes};
+ghost use Rattle.solr_streams.specs.Endings.{HasRisen, IsEndingOf, Writes};
 ghost use Rattle.solr_streams.specs.Evaluations.{ending_of};
 ghost use Rattle.solr_streams.specs.Replies.{alone_outcome, meaning, outcome_of};
 
@@ -51,8 +51,8 @@ pub fn eval<I: Source, O: Sink>(
     output: &mut O,
 ) -> Ending
     ensures writes { Writes result (Some (Eval names))
-        (I.left input.old) (O.written output.old) (O.written output.new) }
-    ensures carried_out { result ≢ Ending.WordsRefused }
+        (I.left input.old) (I.left input.new) (O.written output.old) (O.written output.new) }
+    ensures ending { IsEndingOf (Eval names) result }
     ensures risen { HasRisen result (record {
       input_old = I.faults input.old;
       input_new = I.faults input.new;

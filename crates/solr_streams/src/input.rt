@@ -26,7 +26,7 @@ impl From<AllocError> for ReadFault {
 
 /// Reads the input to its end, or its first 65,537 bytes: one more than an expression may have.
 pub fn read_input<I: Source>(alloc: Global, input: &mut I) -> Result<Vec<u8>, ReadFault>
-    ensures read { IfOk result (λ bytes. IsInput (I.left input.old) bytes.items) }
+    ensures read { IfOk result (λ bytes. IsInput (I.left input.old) (I.left input.new) bytes.items) }
     ensures counts { I.faults input.old ≤ I.faults input.new }
     ensures cause { result ≡ Err Failed → Rose (I.faults input.old) (I.faults input.new) }
 {
@@ -36,7 +36,7 @@ pub fn read_input<I: Source>(alloc: Global, input: &mut I) -> Result<Vec<u8>, Re
         let most = room.len().min(65_537 - bytes.len());
         match input.take(&mut room[..most]) {
             Taken::Got(n) => bytes.extend_from_slice(&room[..n])?,
-            Taken::Ended => break,
+            Taken::Ended => return Ok(bytes),
             Taken::Failed => return Err(ReadFault::Failed),
         }
     }

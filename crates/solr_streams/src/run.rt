@@ -3,7 +3,7 @@ ghost use Rattle.std.specs.Prelude.{◌≡◌, ◌⊎◌, ◌↔◌, IfSome, IsT
 ghost use Rattle.io_edge.specs.Edge.{Rose};
 ghost use Rattle.command_words.specs.Commands.{command_of};
 ghost use Rattle.solr_streams.specs.Commands.{IsCommand, IsAnswered, IsRefused, IsBegun, IsShort};
-ghost use Rattle.solr_streams.specs.Endings.{Writes, HasCause, SaysLine, IsToldEnding};
+ghost use Rattle.solr_streams.specs.Endings.{Writes, HasCause, IsCompletion, SaysLine, IsToldEnding};
 
 use crate::ending::Ending;
 use crate::eval::eval;
@@ -16,7 +16,7 @@ use tuple_values::Words;
 
 fn run<I: Source, O: Sink>(alloc: Global, words: &Words, input: &mut I, output: &mut O) -> Ending
     ensures writes { Writes result (command_of words.now)
-        (I.left input.old) (O.written output.old) (O.written output.new) }
+        (I.left input.old) (I.left input.new) (O.written output.old) (O.written output.new) }
     ensures silent { result ≡ Ending.WordsRefused → O.written output.new ≡ O.written output.old }
     ensures cause { HasCause result words.now (record {
       input_old = I.faults input.old;
@@ -51,16 +51,20 @@ pub fn run_words<R: Threads + Sync, I: Source, O: Sink, E: Sink, G: Gate>(
     // At 0 what answers the command is written, at 3 what tells its first fault, and at each status a
     // first part of the one or the other.
     ensures done { result ≡ 0 → IfSome (I.left input.old) (λ all.
-        IsAnswered (command_of words.now) all (O.written output.old) (O.written output.new)) }
+        IsAnswered (command_of words.now) all (I.left input.new)
+        (O.written output.old) (O.written output.new)) }
     ensures refused { result ≡ 3 → IfSome (I.left input.old) (λ all.
-        IsRefused (command_of words.now) all (O.written output.old) (O.written output.new)) }
+        IsRefused (command_of words.now) all (I.left input.new)
+        (O.written output.old) (O.written output.new)) }
     ensures begun { IfSome (I.left input.old) (λ all.
-        IsBegun (command_of words.now) all (O.written output.old) (O.written output.new)) }
+        IsBegun (command_of words.now) all (I.left input.new)
+        (O.written output.old) (O.written output.new)) }
 
     // At 5 all that a script is to write is written, and its input ends inside a message or has one
     // that is refused.
     ensures short { result ≡ 5 → IfSome (I.left input.old)
-        (λ all. IsShort (command_of words.now) all (O.written output.old) (O.written output.new)) }
+        (λ all. IsShort (command_of words.now) all (I.left input.new)
+        (O.written output.old) (O.written output.new)) }
 
     // 1 comes only where input or output failed; where neither did, a command is answered.
     ensures fault { result ≡ 1
@@ -68,7 +72,7 @@ pub fn run_words<R: Threads + Sync, I: Source, O: Sink, E: Sink, G: Gate>(
         ⊎ Rose (O.faults output.old) (O.faults output.new) }
     ensures complete { IsCommand words.now → ¬ (Rose (I.faults input.old) (I.faults input.new))
         → ¬ (Rose (O.faults output.old) (O.faults output.new))
-        → (result ≡ 0) ⊎ (result ≡ 3) ⊎ (result ≡ 4) ⊎ (result ≡ 5) }
+        → IsCompletion (command_of words.now) result }
 
     // The line on errors names the cause.
     ensures told { IsToldEnding result words.now (record {
@@ -79,7 +83,7 @@ pub fn run_words<R: Threads + Sync, I: Source, O: Sink, E: Sink, G: Gate>(
     })
         (SaysLine (E.written errors.old) (E.written errors.new)
         (E.faults errors.old) (E.faults errors.new))
-        (λ ending. Writes ending (command_of words.now) (I.left input.old)
+        (λ ending. Writes ending (command_of words.now) (I.left input.old) (I.left input.new)
         (O.written output.old) (O.written output.new)) }
 {
     let ending = run(alloc, words, input, output);

@@ -1,9 +1,9 @@
 // The command `script`: requests over collections that begin empty.
-ghost use Rattle.std.specs.Prelude.{◌≡◌, ◌≢◌, Some};
+ghost use Rattle.std.specs.Prelude.{◌≡◌, Some};
 ghost use Rattle.command_words.specs.declared.command.Command.TheVariants.{Script};
 ghost use Rattle.stream_handler.specs.Sessions.{nothing, record_of, wire};
 ghost use Rattle.stream_site.specs.Plains.{layout_of, writer_of};
-ghost use Rattle.solr_streams.specs.Endings.{HasRisen, Writes};
+ghost use Rattle.solr_streams.specs.Endings.{HasRisen, IsEndingOf, Writes};
 ghost use Rattle.solr_streams.specs.Serving.{HasServed, ending_of};
 
 use crate::ending::Ending;
@@ -62,8 +62,8 @@ pub fn script<I: Source, O: Sink>(
     output: &mut O,
 ) -> Ending
     ensures writes { Writes result (Some (Script names))
-        (I.left input.old) (O.written output.old) (O.written output.new) }
-    ensures carried_out { result ≢ Ending.WordsRefused }
+        (I.left input.old) (I.left input.new) (O.written output.old) (O.written output.new) }
+    ensures ending { IsEndingOf (Script names) result }
     ensures risen { HasRisen result (record {
       input_old = I.faults input.old;
       input_new = I.faults input.new;

@@ -1,7 +1,7 @@
-use Rattle.std.proofs.Common.{◌++◌, take, drop, arith, length-append, length-take}
+use Rattle.std.proofs.Common.{◌++◌, take, drop, arith, length-append, length-take, subst, sym}
+use Rattle.solr_streams.specs.Inputs.{IsInput}
 use Rattle.solr_streams.proofs.TakingLemmas.{taken_more, taken_all, taken_full}
 use Rattle.solr_streams.proofs.input.read_input.Goals as goal
-use Rattle.solr_streams.proofs.input.read_input.Goals.{else-loop-room-test, then-loop-room-test+in-Ended}
 
 pub loop-room-preserved : goal.loop-room-preserved
 loop-room-preserved g c =
@@ -9,9 +9,13 @@ loop-room-preserved g c =
     let more = taken_more _ _ _ c.loop-room.bytes.items c.take.new.room (drop c.min-most.result c.loop-room.room) c.in-Got.n c.loop-room.invariant.2 gives.2 gives.1 in
     rw c.in_ok-extend_from_slice-in-Got.ensures.items (omega (arith, length-append c.loop-room.bytes.items (take c.in-Got.n (c.take.new.room ++ drop c.min-most.result c.loop-room.room)), length-take c.in-Got.n (c.take.new.room ++ drop c.min-most.result c.loop-room.room), gives.1, c.take.auto.room, length-take c.min-most.result c.loop-room.room, c.min-most.ensures, c.len-in-loop-room.ensures, c.loop-room.invariant.0), omega (arith, c.loop-room.invariant.1, c.in-Got.ensures.cause.0), more)
 
+pub returns-in-Ended-clause-read : goal.returns-in-Ended-clause-read
+returns-in-Ended-clause-read g c =
+    let gives = c.in-Ended.ensures.gives in
+    subst (λ left. IsInput (g.I.Source.left c.args.input.now) left c.loop-room.bytes.items)
+    (sym gives.1) (taken_all _ _ _ c.loop-room.invariant.2 gives.0 c.loop-room.invariant.0)
+
 pub returns-clause-read : goal.returns-clause-read
 returns-clause-read g c =
-    elim c.loop-room-test.branch [
-      | else-loop-room-test w ↦ taken_full _ _ _ c.loop-room.invariant.2 (omega (arith, c.loop-room.invariant.0, c.len.ensures, w.loop-room-test.false))
-      | then-loop-room-test+in-Ended w ↦ taken_all _ _ _ c.loop-room.invariant.2 w.in-Ended.ensures.gives.0 c.loop-room.invariant.0
-    ]
+    taken_full _ _ _ c.loop-room.invariant.2
+    (omega (arith, c.loop-room.invariant.0, c.len.ensures, c.loop-room-test.false))

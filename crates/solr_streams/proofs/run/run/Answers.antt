@@ -2,7 +2,7 @@ use Rattle.std.proofs.Common.{ap}
 use Rattle.std.specs.Prelude.{Err}
 use Rattle.command_words.specs.Commands.{command_of}
 use Rattle.solr_streams.proofs.BegunLemmas.{nothing_left}
-use Rattle.solr_streams.proofs.CauseLemmas.{readable_command}
+use Rattle.solr_streams.proofs.CauseLemmas.{may_want, readable_command}
 use Rattle.solr_streams.proofs.run.run.Goals as goal
 
 pub returns-in-Err-OutOfMemory-clause-writes : goal.returns-in-Err-OutOfMemory-clause-writes
@@ -12,7 +12,7 @@ returns-in-Err-OutOfMemory-clause-writes g c =
 
 pub returns-in-Err-OutOfMemory-clause-cause : goal.returns-in-Err-OutOfMemory-clause-cause
 returns-in-Err-OutOfMemory-clause-cause g c = (
-  readable_command c.args.words.now
-      (c.in-Err-OutOfMemory.ensures.memory (ap Err c.in-Err-OutOfMemory.field-0-is)),
+  may_want (command_of c.args.words.now) (readable_command c.args.words.now
+      (c.in-Err-OutOfMemory.ensures.memory (ap Err c.in-Err-OutOfMemory.field-0-is))),
   tt,
 )

@@ -1,12 +1,11 @@
-use Rattle.std.proofs.Common.{◌≢◌, subst, sym}
+use Rattle.std.proofs.Common.{subst, sym}
 use Rattle.std.specs.Prelude.{Some}
 use Rattle.command_words.specs.declared.command.Command.TheVariants.{Script}
 use Rattle.stream_site.specs.Plains.{layout_of, writer_of}
 use Rattle.stream_handler.specs.Sessions.{wire}
-use Rattle.solr_streams.specs.Endings.{HasRisen, Writes}
-use Rattle.solr_streams.specs.declared.ending.Ending.TheVariants.{WordsRefused}
+use Rattle.solr_streams.specs.Endings.{HasRisen, IsEndingOf, Writes}
 use Rattle.solr_streams.proofs.BegunLemmas.{script_unbegun}
-use Rattle.solr_streams.proofs.ScriptLemmas.{script_writes, served_risen, served_words}
+use Rattle.solr_streams.proofs.ScriptLemmas.{script_ending, script_writes, served_risen}
 use Rattle.solr_streams.proofs.script.script.Goals as goal
 
 pub returns-in_default-clause-writes : goal.returns-in_default-clause-writes
@@ -21,16 +20,18 @@ returns-clause-writes g c =
     let new = wire c.serve-end.new.requests (g.I.Source.left c.serve-end.new.input)
     (g.I.Source.faults c.serve-end.new.input) (g.O.Sink.written c.serve-end.new.output)
     (g.O.Sink.faults c.serve-end.new.output) in
-    subst (λ e. Writes e (Some (Script c.args.names)) left written
+    subst (λ e. Writes e (Some (Script c.args.names)) left
+    (g.I.Source.left c.serve-end.new.input) written
     (g.O.Sink.written c.serve-end.new.output)) (sym c.ending_of.ensures)
     (script_writes c.args.names c.in-Ok.site c.serve-end.new.site c.begin-requests.result left
     (g.I.Source.faults c.args.input.now) written (g.O.Sink.faults c.args.output.now) new
     c.serve-end.result c.in-Ok.ensures c.begin-requests.ensures c.names.ensures.alone
     c.serve-end.ensures)
 
-pub returns-clause-carried_out : goal.returns-clause-carried_out
-returns-clause-carried_out g c =
-    subst (λ e. e ≢ WordsRefused) (sym c.ending_of.ensures) (served_words c.serve-end.result)
+pub returns-clause-ending : goal.returns-clause-ending
+returns-clause-ending g c =
+    subst (IsEndingOf (Script c.args.names)) (sym c.ending_of.ensures)
+    (script_ending c.args.names c.serve-end.result)
 
 pub returns-clause-risen : goal.returns-clause-risen
 returns-clause-risen g c =
