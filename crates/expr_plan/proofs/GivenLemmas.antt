@@ -1,20 +1,21 @@
 -- What is left of the parameters once one is taken, and the fields of several.
 use Rattle.std.proofs.Common.{◌≡◌, ℕ, Option, List, [], ◌∷◌, ◌++◌, Bool, true, false, cond, codes}
 use Rattle.std.proofs.Common.{refl, ap, subst, sym, ◌∙◌}
+use Rattle.std.specs.List.{filter_map, cons_option}
 use Rattle.std.specs.Str.{bytes_eq}
+use Rattle.std.proofs.lemmas.List.Elements.{filter_map-append}
 use Rattle.std.proofs.lemmas.Slice.Eq.{bytes_eq-Decides}
 use Rattle.tuple_values.specs.Document.{ByteList, Doc}
 use Rattle.expr_plan.specs.Given.{param_at, taken, text_in, names_in, names_maybe, sort_in}
-use Rattle.expr_plan.specs.Given.{query_in, number_in}
+use Rattle.expr_plan.specs.Given.{query_in, number_in, item_in, items_in, metric_in, metrics_in}
 use Rattle.expr_plan.specs.ExprTree.{ExprTree, search}
-use Rattle.expr_plan.specs.Walk.{with_field, with_fields, expression}
+use Rattle.expr_plan.specs.Walk.{with_field, with_fields, search_of}
 use Rattle.query_syntax.specs.declared.query.Query.{Query}
 use Rattle.sort_spec.specs.declared.term.SortTerm.{SortTerm}
 use Rattle.expr_plan.specs.ExprViews.{expr_tree, expr_step}
 use Rattle.expr_plan.specs.declared.expr.Expr.TheOpen.{Expr-F}
 use Rattle.expr_plan.specs.declared.expr.Expr.TheFolds.{fold-roll-Expr}
 use Rattle.expr_plan.specs.declared.expr.Expr.TheVariants as expr
-use Rattle.expr_plan.specs.declared.function.Function.TheVariants.{Search}
 use Rattle.expr_plan.specs.declared.param.Given.{Given}
 use Rattle.expr_plan.specs.declared.param.Param.{Param}
 use Rattle.expr_plan.specs.declared.param.Param.TheVariants.{Nothing}
@@ -47,7 +48,7 @@ with_fields-push doc (first ∷ given) g =
     with_fields-push (with_field doc first.name first.param) given g
 
 -- and where one was taken
-param_at-stays : (other name : ByteList) (given rest : List Given) → rest ≡ taken name given
+pub param_at-stays : (other name : ByteList) (given rest : List Given) → rest ≡ taken name given
     → bytes_eq name other ≡ false → param_at other rest ≡ param_at other given
 param_at-stays other name given rest is apart = rw is (param_at-taken other name given apart)
 
@@ -55,7 +56,7 @@ param_at-stays other name given rest is apart = rw is (param_at-taken other name
 pub search_found : (g g1 g2 g3 g4 g5 : List Given)
     → g1 ≡ taken (codes "collection") g → g2 ≡ taken (codes "q") g1 → g3 ≡ taken (codes "fl") g2
     → g4 ≡ taken (codes "sort") g3 → g5 ≡ taken (codes "rows") g4
-    → expression Search g ≡ search (record {
+    → search_of g ≡ search (record {
       collection = text_in (param_at (codes "collection") g);
       q = query_in (param_at (codes "q") g1);
       fl = names_in (param_at (codes "fl") g2);
@@ -104,5 +105,33 @@ search_is collection q fl by rows keys =
     ap expr_tree (sym (expr.rolls-Search collection q fl by rows keys))
     ∙ fold-roll-Expr ExprTree expr_step (Expr-F.Search collection q fl by rows keys)
 
+-- the items of one more parameter
+pub items_in-push : (given : List Given) (g : Given)
+    → items_in (given ++ g ∷ []) ≡ items_in given ++ cons_option (item_in g.param) []
+items_in-push given g = filter_map-append (λ g. item_in g.param) given (g ∷ [])
+
+-- the metrics of one more parameter
+pub metrics_in-push : (given : List Given) (g : Given)
+    → metrics_in (given ++ g ∷ []) ≡ metrics_in given ++ cons_option (metric_in g) []
+metrics_in-push given g = filter_map-append metric_in given (g ∷ [])
+
+-- the metrics stay where a parameter of another name is taken
+pub metrics_in-taken : (name : ByteList) (given : List Given)
+    → bytes_eq name (codes "metric") ≡ false → metrics_in (taken name given) ≡ metrics_in given
+metrics_in-taken name [] apart = refl
+metrics_in-taken name (g ∷ given) apart =
+    go (bytes_eq g.name name) refl (metrics_in-taken name given apart)
+  where
+    go : (b : Bool) → bytes_eq g.name name ≡ b
+        → metrics_in (taken name given) ≡ metrics_in given
+        → metrics_in (cond b (record g { param = Nothing } ∷ given) (g ∷ taken name given))
+        ≡ metrics_in (g ∷ given)
+    go true is stays = rw (other_name g.name name (codes "metric") apart is) refl
+    go false is stays = ap (cons_option (metric_in g)) stays
+
 -- what a loop over parameters needs
 pub ruleset field_steps = (with_fields-push)
+
+pub ruleset item_steps = (items_in-push)
+
+pub ruleset metric_steps = (metrics_in-push)

@@ -1,5 +1,5 @@
 -- What is said of a fault of a plan (own).
-use Rattle.std.specs.Prelude.{◌++◌, codes}
+use Rattle.std.specs.Prelude.{◌≡◌, ◌++◌, codes, Result, Ok, Err}
 use Rattle.std.specs.Fmt.{decimal}
 use Rattle.tuple_values.specs.Document.{ByteList}
 use Rattle.expr_plan.specs.declared.fault.PlanFault.{PlanFault}
@@ -19,3 +19,19 @@ fault_text (WrongInputs function found) =
 fault_text (BadSort at) = codes "BadSort" ++ codes " at " ++ decimal at
 fault_text (BadQuery at) = codes "BadQuery" ++ codes " at " ++ decimal at
 fault_text OutOfMemory = codes "out of memory"
+
+-- what comes after a first part; its fault ends
+abbrev pub and_then : {X Y : Type 0} → Result X PlanFault → (X → Result Y PlanFault)
+    → Result Y PlanFault
+and_then (Ok x) next = next x
+and_then (Err f) next = Err f
+
+-- the fault is the wanted one, unless memory was wanting
+abbrev pub IsFaultOf : {X : Type 0} → Result X PlanFault → PlanFault → Type 0
+IsFaultOf wanted (UnknownFunction name) = wanted ≡ Err (UnknownFunction name)
+IsFaultOf wanted (MissingParam f name) = wanted ≡ Err (MissingParam f name)
+IsFaultOf wanted (BadParam f name) = wanted ≡ Err (BadParam f name)
+IsFaultOf wanted (WrongInputs f found) = wanted ≡ Err (WrongInputs f found)
+IsFaultOf wanted (BadSort at) = wanted ≡ Err (BadSort at)
+IsFaultOf wanted (BadQuery at) = wanted ≡ Err (BadQuery at)
+IsFaultOf wanted OutOfMemory = Unit {0}

@@ -1,13 +1,16 @@
 -- What the arguments of a call give, by name (own).
 use Rattle.std.specs.Prelude.{ℕ, Bool, false, ◌||◌, List, [], ◌∷◌, Option, Some, None, bytes_eq}
-use Rattle.std.specs.Prelude.{if◌then◌else◌}
+use Rattle.std.specs.Prelude.{codes, if◌then◌else◌}
+use Rattle.std.specs.List.{filter_map}
 use Rattle.tuple_values.specs.Document.{ByteList}
 use Rattle.query_syntax.specs.Tree.{ClauseTree}
 use Rattle.sort_spec.specs.declared.term.SortTerm.{SortTerm}
 use Rattle.expr_plan.specs.declared.param.Given.{Given}
 use Rattle.expr_plan.specs.declared.param.Param.{Param}
-use Rattle.expr_plan.specs.declared.param.Param.TheVariants.{Nothing, Literal, Plain, Names, Sort}
-use Rattle.expr_plan.specs.declared.param.Param.TheVariants.{Query, Number}
+use Rattle.expr_plan.specs.declared.param.Param.TheVariants as param
+use Rattle.expr_plan.specs.declared.item.GroupOp.{GroupOp}
+use Rattle.expr_plan.specs.declared.item.Item.{Item}
+use Rattle.expr_plan.specs.declared.item.Metric.{Metric}
 
 -- whether there is a parameter of the name
 abbrev pub is_given : ByteList → List Given → Bool
@@ -16,14 +19,15 @@ is_given name (g ∷ given) = bytes_eq g.name name || is_given name given
 
 -- the first parameter of the name; nothing where there is none
 abbrev pub param_at : ByteList → List Given → Param
-param_at name [] = Nothing
+param_at name [] = param.Nothing
 param_at name (g ∷ given) = if bytes_eq g.name name then g.param else param_at name given
 
 -- the parameters, with nothing in place of the first of the name
 abbrev pub taken : ByteList → List Given → List Given
 taken name [] = []
 taken name (g ∷ given) =
-    if bytes_eq g.name name then record g { param = Nothing } ∷ given else g ∷ taken name given
+    if bytes_eq g.name name then record g { param = param.Nothing } ∷ given
+    else g ∷ taken name given
 
 -- the first name of a list that isn't given
 abbrev pub first_absent : List ByteList → List Given → Option ByteList
@@ -33,30 +37,62 @@ first_absent (name ∷ names) given =
 
 -- a parameter as a text
 abbrev pub text_in : Param → ByteList
-text_in (Plain text) = text
+text_in (param.Plain text) = text
 text_in _ = []
 
 -- a parameter as a list of names, if it is one
 abbrev pub names_maybe : Param → Option (List ByteList)
-names_maybe (Names names) = Some names
+names_maybe (param.Names names) = Some names
 names_maybe _ = None
 
 -- a parameter as a list of names
 abbrev pub names_in : Param → List ByteList
-names_in (Names names) = names
+names_in (param.Names names) = names
 names_in _ = []
 
 -- a parameter as a sort
 abbrev pub sort_in : Param → List SortTerm
-sort_in (Sort terms) = terms
+sort_in (param.Sort terms) = terms
 sort_in _ = []
 
 -- a parameter as a query
 abbrev pub query_in : Param → List ClauseTree
-query_in (Query query) = query.clauses
+query_in (param.Query query) = query.clauses
 query_in _ = []
 
 -- a parameter as a number, if it is one
 abbrev pub number_in : Param → Option ℕ
-number_in (Number n) = Some n
+number_in (param.Number n) = Some n
 number_in _ = None
+
+-- a parameter as a count
+abbrev pub count_in : Param → ℕ
+count_in (param.Number n) = n
+count_in _ = 0
+
+-- a parameter as a group
+abbrev pub group_in : Param → GroupOp
+group_in (param.Group op) = op
+group_in _ = record { sort = []; n = 0 }
+
+-- a parameter as an item, if it is one
+abbrev pub item_in : Param → Option Item
+item_in (param.Item item) = Some item
+item_in _ = None
+
+-- the items among parameters, in order
+abbrev pub items_in : List Given → List Item
+items_in given = filter_map (λ g. item_in g.param) given
+
+-- a parameter as a metric, if it is one
+abbrev pub metric_of_param : Param → Option Metric
+metric_of_param (param.Metric metric) = Some metric
+metric_of_param _ = None
+
+-- the metric that was given, if it was one
+abbrev pub metric_in : Given → Option Metric
+metric_in g = if bytes_eq g.name (codes "metric") then metric_of_param g.param else None
+
+-- the metrics among parameters, in order
+abbrev pub metrics_in : List Given → List Metric
+metrics_in given = filter_map metric_in given

@@ -1,15 +1,14 @@
 -- What the value under a key is read as (own).
-use Rattle.std.specs.Prelude.{ℕ, ℤ, pos, negsuc, Bool, ◌&&◌, nat_le, List, Option, Some, None}
-use Rattle.std.specs.Prelude.{Result, Ok, Err, codes, if◌then◌else◌}
+use Rattle.std.specs.Prelude.{ℕ, Bool, List, Option, Some, None, Result, Ok, Err, codes}
+use Rattle.std.specs.Prelude.{if◌then◌else◌}
 use Rattle.tuple_values.specs.Document.{ByteList, is_named}
 use Rattle.tuple_values.specs.Whole.{whole_of}
-use Rattle.tuple_values.specs.declared.value.Value.{Value}
-use Rattle.tuple_values.specs.declared.value.Value.TheVariants as value
 use Rattle.query_syntax.specs.Tree.{ClauseTree}
 use Rattle.query_syntax.specs.Reading.{read_of}
 use Rattle.sort_spec.specs.Reading.{Reading, said, stuck, sort_of, names_of}
 use Rattle.sort_spec.specs.declared.term.SortTerm.{SortTerm}
 use Rattle.expr_plan.specs.Functions.{name_of}
+use Rattle.expr_plan.specs.Literals.{literal, within}
 use Rattle.expr_plan.specs.declared.fault.PlanFault.{PlanFault}
 use Rattle.expr_plan.specs.declared.fault.PlanFault.TheVariants.{BadParam, BadSort, BadQuery}
 use Rattle.expr_plan.specs.declared.function.Function.{Function}
@@ -22,21 +21,6 @@ use Rattle.expr_plan.specs.declared.param.Param.TheVariants as param
 -- a fault of a parameter
 abbrev pub bad : {X : Type 0} → Function → ByteList → Result X PlanFault
 bad f name = Err (BadParam (name_of f) name)
-
--- the number, where there is one, else the text
-abbrev pub number_or : Option ℤ → ByteList → Value
-number_or None text = value.Text text
-number_or (Some n) text = value.Long n
-
--- a literal is a number where it is bare and whole, else a text
-abbrev pub literal : ByteList → Bool → Value
-literal text quoted = if quoted then value.Text text else number_or (whole_of text) text
-
--- the number, where it is within the limits
-abbrev pub within : ℕ → ℕ → Option ℤ → Option ℕ
-within low high None = None
-within low high (Some (pos n)) = if nat_le low n && nat_le n high then Some n else None
-within low high (Some (negsuc n)) = None
 
 -- a number as a parameter
 abbrev pub number_param : Function → ByteList → Option ℕ → Result Param PlanFault

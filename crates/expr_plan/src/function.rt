@@ -1,7 +1,8 @@
 // The functions that are known, and what each takes.
 ghost use Rattle.std.specs.Prelude.{◌≡◌, option_map};
-ghost use Rattle.expr_plan.specs.Functions.{function_of, name_of, shape_of, search_shape, next_operand, first_missing, takes};
+ghost use Rattle.expr_plan.specs.Functions.{function_of, name_of, only, shape_of, search_shape, top_shape, next_operand, first_missing, takes};
 
+use crate::groups::COUNT_LIMIT;
 use crate::param::Params;
 
 /// A function of expressions.
@@ -9,6 +10,14 @@ use crate::param::Params;
 pub enum Function {
     Search,
     Tuple,
+    Select,
+    Having,
+    Sort,
+    Top,
+    Unique,
+    Merge,
+    Reduce,
+    Rollup,
 }
 
 /// What the value under a key is to be.
@@ -32,12 +41,18 @@ pub enum Shape {
 pub(crate) fn function_of(name: &str) -> Option<Function>
     ensures { result ≡ function_of name.now }
 {
-    if name == "search" {
-        Some(Function::Search)
-    } else if name == "tuple" {
-        Some(Function::Tuple)
-    } else {
-        None
+    match name {
+        "search" => Some(Function::Search),
+        "tuple" => Some(Function::Tuple),
+        "select" => Some(Function::Select),
+        "having" => Some(Function::Having),
+        "sort" => Some(Function::Sort),
+        "top" => Some(Function::Top),
+        "unique" => Some(Function::Unique),
+        "merge" => Some(Function::Merge),
+        "reduce" => Some(Function::Reduce),
+        "rollup" => Some(Function::Rollup),
+        _ => None,
     }
 }
 
@@ -49,6 +64,14 @@ impl Function {
         match self {
             Function::Search => "search",
             Function::Tuple => "tuple",
+            Function::Select => "select",
+            Function::Having => "having",
+            Function::Sort => "sort",
+            Function::Top => "top",
+            Function::Unique => "unique",
+            Function::Merge => "merge",
+            Function::Reduce => "reduce",
+            Function::Rollup => "rollup",
         }
     }
 
@@ -58,6 +81,14 @@ impl Function {
     {
         match self {
             Function::Search | Function::Tuple => inputs == 0,
+            Function::Merge => 2 <= inputs,
+            Function::Select
+            | Function::Having
+            | Function::Sort
+            | Function::Top
+            | Function::Unique
+            | Function::Reduce
+            | Function::Rollup => inputs == 1,
         }
     }
 
@@ -68,6 +99,12 @@ impl Function {
         match self {
             Function::Search => search_shape(key),
             Function::Tuple => Some(Shape::Literal),
+            Function::Select | Function::Having => None,
+            Function::Sort => only("by", Shape::Sort, key),
+            Function::Top => top_shape(key),
+            Function::Unique | Function::Rollup => only("over", Shape::Names, key),
+            Function::Merge => only("on", Shape::Sort, key),
+            Function::Reduce => only("by", Shape::Names, key),
         }
     }
 
@@ -78,7 +115,7 @@ impl Function {
     {
         match self {
             Function::Search if !params.has("collection") => Some("collection"),
-            Function::Search | Function::Tuple => None,
+            _ => None,
         }
     }
 
@@ -91,9 +128,27 @@ impl Function {
             Function::Search if !params.has("q") => Some("q"),
             Function::Search if !params.has("fl") => Some("fl"),
             Function::Search if !params.has("sort") => Some("sort"),
-            Function::Search | Function::Tuple => None,
+            Function::Select if !params.has("item") => Some("item"),
+            Function::Having if !params.has("condition") => Some("condition"),
+            Function::Sort if !params.has("by") => Some("by"),
+            Function::Top if !params.has("n") => Some("n"),
+            Function::Top if !params.has("sort") => Some("sort"),
+            Function::Unique if !params.has("over") => Some("over"),
+            Function::Merge if !params.has("on") => Some("on"),
+            Function::Reduce if !params.has("group") => Some("group"),
+            Function::Reduce if !params.has("by") => Some("by"),
+            Function::Rollup if !params.has("metric") => Some("metric"),
+            Function::Rollup if !params.has("over") => Some("over"),
+            _ => None,
         }
     }
+}
+
+// What the value under a key is to be where there is one key.
+fn only(name: &str, shape: Shape, key: &str) -> Option<Shape>
+    ensures { result ≡ only name.now shape key.now }
+{
+    if key == name { Some(shape) } else { None }
 }
 
 fn search_shape(key: &str) -> Option<Shape>
@@ -114,6 +169,21 @@ fn search_shape(key: &str) -> Option<Shape>
         Some(Shape::Anything)
     } else if key == "partitionKeys" {
         Some(Shape::Names)
+    } else {
+        None
+    }
+}
+
+fn top_shape(key: &str) -> Option<Shape>
+    ensures { result ≡ top_shape key.now }
+{
+    if key == "n" {
+        Some(Shape::Number {
+            low: 1,
+            high: COUNT_LIMIT,
+        })
+    } else if key == "sort" {
+        Some(Shape::Sort)
     } else {
         None
     }

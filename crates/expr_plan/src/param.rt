@@ -1,12 +1,14 @@
 // What the arguments of a call give.
-ghost use Rattle.std.specs.Prelude.{◌≡◌, ◌++◌, ◌∷◌, [], OnOk, OnErr, IfOk};
-ghost use Rattle.expr_plan.specs.Given.{is_given, param_at, taken, text_in, names_in, sort_in, query_in, number_in, names_maybe};
+ghost use Rattle.std.specs.Prelude.{◌≡◌, ◌++◌, ◌∷◌, [], OnOk, OnErr, IfOk, Some, None};
+ghost use Rattle.std.specs.List.{cons_option};
+ghost use Rattle.expr_plan.specs.Given.{is_given, param_at, taken, text_in, names_in, sort_in, query_in, number_in, count_in, group_in, item_in, metric_of_param, metric_in, items_in, metrics_in, names_maybe};
 
+use crate::{Condition, GroupOp, Item, Items, Metric, Metrics};
 use query_syntax::{Clauses, Query};
 use sort_spec::SortSpec;
 use std::alloc::Global;
 use std::mem;
-use tuple_values::{FieldList, Memory, Text, Value};
+use tuple_values::{FieldList, Memory, Sequence, Text, Value};
 
 /// What a parameter is read as.
 #[derive(Debug, Drop)]
@@ -19,6 +21,9 @@ pub enum Param {
     Sort(SortSpec),
     Query(Query),
     Number(u64),
+    Item(Item),
+    Metric(Metric),
+    Group(GroupOp),
 }
 
 /// A parameter under its key, or under the name of the operand that it is.
@@ -28,30 +33,51 @@ pub struct Given {
     pub(crate) param: Param,
 }
 
-/// Parameters in the order of the arguments.
+/// Parameters in the order of the arguments, and the condition where there was one.
 #[derive(Debug, Drop)]
 pub(crate) struct Params {
     items: Vec<Given>,
+    condition: Option<Condition>,
 }
 
 impl Params {
     /// No parameter.
     pub fn new(alloc: Global) -> Params
-        ensures { result.items.items ≡ [] }
+        ensures items { result.items.items ≡ [] }
+        ensures condition { result.condition ≡ None }
     {
         Params {
             items: Vec::new(alloc),
+            condition: None,
         }
     }
 
     /// Adds one at the end.
     pub fn push(&mut self, name: Text, param: Param) -> Result<(), Memory>
         ensures ok { OnOk result
-            (self.new.items.items ≡ self.old.items.items ++ record { name = name; param = param } ∷ []) }
+            (self.new.items.items
+            ≡ self.old.items.items ++ record { name = name; param = param } ∷ []) }
         ensures err { OnErr result (self.new.items.items ≡ self.old.items.items) }
+        ensures same { self.new.condition ≡ self.old.condition }
     {
         self.items.push(Given { name, param })?;
         Ok(())
+    }
+
+    /// Puts a condition in, in place of one that is there.
+    pub fn put_condition(&mut self, condition: Condition)
+        ensures condition { self.new.condition ≡ Some condition }
+        ensures same { self.new.items.items ≡ self.old.items.items }
+    {
+        self.condition = Some(condition);
+    }
+
+    /// Takes the condition out.
+    pub fn take_condition(&mut self) -> Option<Condition>
+        ensures value { result ≡ self.old.condition }
+        ensures rest { self.new.items.items ≡ self.old.items.items }
+    {
+        self.condition.take()
     }
 
     /// Whether there is one of the name.
@@ -76,7 +102,8 @@ impl Params {
 
     /// Takes out a text; the empty one where there is none.
     pub fn take_text(&mut self, alloc: Global, name: &str) -> Result<Text, Memory>
-        ensures value { IfOk result (λ text. text ≡ text_in (param_at name.now self.old.items.items)) }
+        ensures value { IfOk result (λ text. text
+            ≡ text_in (param_at name.now self.old.items.items)) }
         ensures rest { self.new.items.items ≡ taken name.now self.old.items.items }
     {
         match self.take(name) {
@@ -142,6 +169,55 @@ impl Params {
         }
     }
 
+    /// Takes out a count; 0 where there is none.
+    pub fn take_count(&mut self, name: &str) -> u64
+        ensures value { result ≡ count_in (param_at name.now self.old.items.items) }
+        ensures rest { self.new.items.items ≡ taken name.now self.old.items.items }
+    {
+        match self.take(name) {
+            Param::Number(n) => n,
+            _ => 0,
+        }
+    }
+
+    /// Takes out a group; that of no tuple where there is none.
+    pub fn take_group(&mut self, alloc: Global, name: &str) -> GroupOp
+        ensures value { result ≡ group_in (param_at name.now self.old.items.items) }
+        ensures rest { self.new.items.items ≡ taken name.now self.old.items.items }
+    {
+        match self.take(name) {
+            Param::Group(op) => op,
+            _ => GroupOp {
+                sort: SortSpec::new(alloc),
+                n: 0,
+            },
+        }
+    }
+
+    /// The items among the parameters.
+    #[tactic(auto, using(crate::proofs::GivenLemmas::item_steps))]
+    pub fn into_items(self, alloc: Global) -> Result<Items, Memory>
+        ensures { IfOk result (λ items. items ≡ items_in self.items.items) }
+    {
+        let mut items = Items::new(alloc);
+        for given in self.items {
+            push_some(&mut items, item_in(given.param))?;
+        }
+        Ok(items)
+    }
+
+    /// The metrics among the parameters.
+    #[tactic(auto, using(crate::proofs::GivenLemmas::metric_steps))]
+    pub fn into_metrics(self, alloc: Global) -> Result<Metrics, Memory>
+        ensures { IfOk result (λ metrics. metrics ≡ metrics_in self.items.items) }
+    {
+        let mut metrics = Metrics::new(alloc);
+        for given in self.items {
+            push_some(&mut metrics, metric_in(given))?;
+        }
+        Ok(metrics)
+    }
+
     /// The parameters as a vector.
     pub fn into_vec(self) -> Vec<Given>
         ensures { result.items ≡ self.items.items }
@@ -163,5 +239,44 @@ fn take(items: &mut [Given], name: &str) -> Param
                 take(rest, name)
             }
         }
+    }
+}
+
+/// Adds an item at the end, where there is one.
+pub(crate) fn push_some<T: Drop>(items: &mut Sequence<T>, item: Option<T>) -> Result<(), Memory>
+    ensures { OnOk result (items.new ≡ items.old ++ cons_option item []) }
+{
+    match item {
+        Some(item) => items.push(item),
+        None => Ok(()),
+    }
+}
+
+fn item_in(param: Param) -> Option<Item>
+    ensures { result ≡ item_in param }
+{
+    match param {
+        Param::Item(item) => Some(item),
+        _ => None,
+    }
+}
+
+fn metric_in(given: Given) -> Option<Metric>
+    ensures { result ≡ metric_in given }
+{
+    let Given { name, param } = given;
+    if name.as_str() == "metric" {
+        metric_of(param)
+    } else {
+        None
+    }
+}
+
+fn metric_of(param: Param) -> Option<Metric>
+    ensures { result ≡ metric_of_param param }
+{
+    match param {
+        Param::Metric(metric) => Some(metric),
+        _ => None,
     }
 }

@@ -1,61 +1,25 @@
 // What a call stands for.
-ghost use Rattle.std.specs.Prelude.{◌≡◌, [], IfOk, IfErr, OnOk, MatchResult, Ok};
+ghost use Rattle.std.specs.Prelude.{◌≡◌, [], IfOk, IfErr, MatchResult, Ok, map, option_map};
+ghost use Rattle.std.specs.List.{cons_option};
 ghost use Rattle.expr_reader.specs.Tree.{trees_of};
-ghost use Rattle.expr_reader.specs.Views.{call_tree};
+ghost use Rattle.expr_reader.specs.Views.{call_tree, arg_tree};
+ghost use Rattle.expr_plan.specs.Arguments.{walked};
 ghost use Rattle.expr_plan.specs.ExprViews.{expr_tree};
+ghost use Rattle.expr_plan.specs.Fault.{IsFaultOf};
 ghost use Rattle.expr_plan.specs.Functions.{name_of};
-ghost use Rattle.expr_plan.specs.Walk.{expression, with_field, with_fields, planned_of, planned, IsFaultOf};
+ghost use Rattle.expr_plan.specs.Lists.{AreKeysKept};
+ghost use Rattle.expr_plan.specs.Walk.{walked_of, planned, inputs_planned, input_planned};
 ghost use Rattle.expr_plan.specs.declared.fault.PlanFault.TheVariants.{MissingParam, WrongInputs};
 
+use crate::building::expression;
 use crate::function::{Function, function_of};
-use crate::param::{Given, Param, Params};
+use crate::helpers::{is_helper, made_names};
+use crate::param::{Params, push_some};
 use crate::walk::{inputs_found, params_of};
-use crate::{Expr, PlanFault};
-use expr_reader::Call;
+use crate::{Expr, Exprs, PlanFault};
+use expr_reader::{Arg, Args, Call};
 use std::alloc::Global;
-use tuple_values::{Memory, Text, TryCopy, Tuple};
-
-// A search with these parameters.
-fn search(alloc: Global, mut params: Params) -> Result<Expr, Memory>
-    ensures { IfOk result (λ e. expr_tree e ≡ expression Function.Search params.items.items) }
-{
-    let collection = params.take_text(alloc, "collection")?;
-    let q = params.take_query(alloc, "q");
-    let fl = params.take_names(alloc, "fl");
-    let sort = params.take_sort(alloc, "sort");
-    let rows = params.take_number("rows");
-    let partition_keys = params.take_names_maybe("partitionKeys");
-    Ok(Expr::Search {
-        collection,
-        q,
-        fl,
-        sort,
-        rows,
-        partition_keys,
-    })
-}
-
-fn put_field(tuple: &mut Tuple, given: Given) -> Result<(), Memory>
-    ensures { OnOk result (tuple.new ≡ with_field tuple.old given.name given.param) }
-{
-    let Given { name, param } = given;
-    if let Param::Literal(value) = param {
-        tuple.put(name, value)?;
-    }
-    Ok(())
-}
-
-// A tuple of these parameters.
-#[tactic(auto, using(crate::proofs::GivenLemmas::field_steps))]
-fn tuple(alloc: Global, params: Params) -> Result<Expr, Memory>
-    ensures { IfOk result (λ e. expr_tree e ≡ expression Function.Tuple params.items.items) }
-{
-    let mut fields = Tuple::empty(alloc);
-    for given in params.into_vec() {
-        put_field(&mut fields, given)?;
-    }
-    Ok(Expr::Tuple { fields })
-}
+use tuple_values::{Memory, Sequence, Text, TryCopy};
 
 fn missing(alloc: Global, function: Function, name: &str) -> Result<PlanFault, Memory>
     ensures { IfOk result (λ fault. fault ≡ MissingParam (name_of function) name.now) }
@@ -72,36 +36,68 @@ fn wrong_inputs(alloc: Global, function: Function, found: u64) -> Result<PlanFau
     Ok(PlanFault::WrongInputs { function, found })
 }
 
-fn plan_as(alloc: Global, function: Function, call: &Call) -> Result<Expr, PlanFault>
-    ensures { MatchResult result (λ e. planned_of function (trees_of call.now.args) ≡ Ok (expr_tree e))
-        (IsFaultOf (planned_of function (trees_of call.now.args))) }
+// What the arguments of a function give, or the first fault that isn't in an input.
+fn walk_args(alloc: Global, function: Function, args: &Args) -> Result<Params, PlanFault>
+    ensures { MatchResult result
+        (λ params. walked_of function (trees_of args.now) ≡ Ok (walked params))
+        (IsFaultOf (walked_of function (trees_of args.now))) }
 {
-    let found = inputs_found(&call.args);
+    let found = inputs_found(function, args);
     if !function.takes(found) {
         return Err(wrong_inputs(alloc, function, found)?);
     }
-    let params = params_of(alloc, function, &call.args)?;
+    let made = made_names(alloc, function, args)?;
+    let params = params_of(alloc, function, &made, args)?;
     if let Some(name) = function.first_missing(&params) {
         return Err(missing(alloc, function, name)?);
     }
-    match function {
-        Function::Search => Ok(search(alloc, params)?),
-        Function::Tuple => Ok(tuple(alloc, params)?),
+    Ok(params)
+}
+
+/// The expression that a call stands for (Solr Reference Guide, "Stream Source Reference" and
+/// "Stream Decorator Reference"), or its first fault: an unknown name, another number of inputs,
+/// the arguments from the left to the right, what is missing, and then the inputs in the same way.
+#[cycle(planning)]
+pub fn plan(alloc: Global, call: &Call) -> Result<Expr, PlanFault>
+    ensures ok { IfOk result (λ e. planned (call_tree call.now) ≡ Ok (expr_tree e)) }
+    ensures well { IfOk result (λ e. AreKeysKept (expr_tree e)) }
+    ensures err { IfErr result (IsFaultOf (planned (call_tree call.now))) }
+{
+    let Some(function) = function_of(call.name.as_str()) else {
+        let name = call.name.copy(alloc)?;
+        return Err(PlanFault::UnknownFunction { name });
+    };
+    let params = walk_args(alloc, function, &call.args)?;
+    let inputs = plan_inputs(alloc, function, &call.args)?;
+    Ok(expression(alloc, function, params, inputs)?)
+}
+
+// What an argument stands for that may be an input.
+#[cycle(planning)]
+fn plan_input(alloc: Global, function: Function, arg: &Arg) -> Result<Option<Expr>, PlanFault>
+    ensures { MatchResult result
+        (λ e. input_planned function (arg_tree arg.now)
+        ≡ Ok (cons_option (option_map expr_tree e) []))
+        (IsFaultOf (input_planned function (arg_tree arg.now))) }
+{
+    match arg {
+        Arg::Sub(call) if !is_helper(function, call) => Ok(Some(plan(alloc, call)?)),
+        _ => Ok(None),
     }
 }
 
-/// The expression that a call stands for (Solr Reference Guide, "Stream Source Reference"), or its
-/// first fault: an unknown name, another number of inputs, the arguments from the left to the
-/// right, and then what is missing. Today `search` and `tuple` are known.
-pub fn plan(alloc: Global, call: &Call) -> Result<Expr, PlanFault>
-    ensures ok { IfOk result (λ e. planned (call_tree call.now) ≡ Ok (expr_tree e)) }
-    ensures err { IfErr result (IsFaultOf (planned (call_tree call.now))) }
+// What the inputs of a function stand for.
+#[cycle(planning)]
+fn plan_inputs(alloc: Global, function: Function, args: &Args) -> Result<Exprs, PlanFault>
+    ensures { MatchResult result
+        (λ inputs. inputs_planned function (trees_of args.now)
+        ≡ Ok (map expr_tree inputs.items))
+        (IsFaultOf (inputs_planned function (trees_of args.now))) }
 {
-    match function_of(call.name.as_str()) {
-        Some(function) => plan_as(alloc, function, call),
-        None => {
-            let name = call.name.copy(alloc)?;
-            Err(PlanFault::UnknownFunction { name })
-        }
+    let mut inputs = Sequence::new(alloc);
+    for k in 0..args.count() {
+        let input = plan_input(alloc, function, args.get(k))?;
+        push_some(&mut inputs, input)?;
     }
+    Ok(inputs.into_vec())
 }

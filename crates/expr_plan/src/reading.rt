@@ -4,18 +4,20 @@ ghost use Rattle.tuple_values.specs.Whole.{whole_of};
 ghost use Rattle.query_syntax.specs.Reading.{read_of};
 ghost use Rattle.sort_spec.specs.Reading.{sort_of, names_of};
 ghost use Rattle.expr_plan.specs.Functions.{name_of};
-ghost use Rattle.expr_plan.specs.Shapes.{literal, within, number_param, names_param, fields_param, sort_param, query_param, read_as};
-ghost use Rattle.expr_plan.specs.Walk.{IsFaultOf};
+ghost use Rattle.expr_plan.specs.Fault.{IsFaultOf};
+ghost use Rattle.expr_plan.specs.Literals.{within};
+ghost use Rattle.expr_plan.specs.Shapes.{number_param, names_param, fields_param, sort_param, query_param, read_as};
 ghost use Rattle.expr_plan.specs.declared.fault.PlanFault.TheVariants.{BadParam};
 
 use crate::PlanFault;
 use crate::function::{Function, Shape};
+use crate::literals::{literal, within};
 use crate::param::Param;
 use expr_reader::Word;
 use query_syntax::{QueryFault, read_query};
 use sort_spec::{SortFault, read_names, read_sort};
 use std::alloc::Global;
-use tuple_values::{Memory, Text, TryCopy, Value, whole};
+use tuple_values::{Memory, Text, whole};
 
 /// The fault of a parameter.
 pub(crate) fn bad(alloc: Global, function: Function, name: &str) -> Result<PlanFault, Memory>
@@ -24,29 +26,6 @@ pub(crate) fn bad(alloc: Global, function: Function, name: &str) -> Result<PlanF
     let function = Text::of(alloc, function.name())?;
     let name = Text::of(alloc, name)?;
     Ok(PlanFault::BadParam { function, name })
-}
-
-fn literal(alloc: Global, word: &Word) -> Result<Value, Memory>
-    ensures { IfOk result (λ value. value ≡ literal word.now.text word.now.quoted) }
-{
-    if !word.quoted
-        && let Some(n) = whole(word.text.as_str())
-    {
-        return Ok(Value::Long(n));
-    }
-    Ok(Value::Text(word.text.copy(alloc)?))
-}
-
-fn within(low: u64, high: u64, number: Option<i64>) -> Option<u64>
-    ensures { result ≡ within low high number }
-{
-    match number {
-        Some(n) if n >= 0 => {
-            let n = n as u64;
-            if low <= n && n <= high { Some(n) } else { None }
-        }
-        _ => None,
-    }
 }
 
 fn read_number(

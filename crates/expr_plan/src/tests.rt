@@ -1,98 +1,8 @@
-// What no clause can say: that the definitions mean what the rules say, and that each call that
-// takes memory succeeds.
-use crate::{Expr, PlanFault, plan};
+// What no clause can say: that what is read has the parts that are written.
+use crate::{Comparison, Condition, Expr, Item, Items, Metric, plan};
 use expr_reader::read_expr;
-use std::alloc::Global;
 use std::test::Fail;
-use tuple_values::{Text, Value};
-
-// What a reply says of the first fault, and `read` where there is none.
-fn told(alloc: Global, expression: &str) -> Result<Text, Fail> {
-    let call = read_expr(alloc, expression.as_bytes())?;
-    match plan(alloc, &call) {
-        Ok(_) => Ok(Text::of(alloc, "read")?),
-        Err(fault) => Ok(fault.text(alloc)?),
-    }
-}
-
-const FAULTS: [(&str, &str); 42] = [
-    ("foo(a=1)", "UnknownFunction foo"),
-    ("Search(c)", "UnknownFunction Search"),
-    ("tuple()", "read"),
-    ("tuple(q=1,any.key-2=x)", "read"),
-    ("tuple(a)", "BadParam tuple operand"),
-    ("tuple(a=1,b=2,a=3)", "BadParam tuple a"),
-    ("tuple(a=1,a=2,b)", "BadParam tuple a"),
-    ("tuple(b,a=1,a=2)", "BadParam tuple operand"),
-    ("search(c,q=\"*:*\",fl=\"id\",sort=\"id asc\")", "read"),
-    ("search(sort=\"id asc\",fl=\"id\",\"c\",q=\"*:*\")", "read"),
-    ("search(c,q=\"*:*\",fl=\"id\")", "MissingParam search sort"),
-    (
-        "search(c,q=\"*:*\",sort=\"id asc\")",
-        "MissingParam search fl",
-    ),
-    ("search(c,rows=1)", "MissingParam search q"),
-    ("search()", "MissingParam search collection"),
-    (
-        "search(c,d,q=\"*:*\",fl=\"id\",sort=\"id asc\")",
-        "BadParam search operand",
-    ),
-    (
-        "search(c,q=\"*:*\",q=\"*:*\",fl=\"id\",sort=\"id asc\")",
-        "BadParam search q",
-    ),
-    ("search(c,q=\"*:*\",q=\"foo bar\")", "BadParam search q"),
-    ("search(c,fq=\"*:*\")", "BadParam search fq"),
-    ("search(c,collection=c)", "BadParam search collection"),
-    (
-        "search(c,q=\"*:*\",fl=\"id,*\",sort=\"id asc\")",
-        "BadParam search fl",
-    ),
-    (
-        "search(c,q=\"*:*\",fl=\"\",sort=\"id asc\")",
-        "BadParam search fl",
-    ),
-    (
-        "search(c,partitionKeys=\"*\",qt=/export,rows=0)",
-        "MissingParam search q",
-    ),
-    (
-        "search(c,partitionKeys=\",\")",
-        "BadParam search partitionKeys",
-    ),
-    ("search(c,q=\"*:*\",fl=\"id\",sort=\"id\")", "BadSort at 2"),
-    ("search(c,sort=\"a\",q=\"b\")", "BadSort at 1"),
-    ("search(c,q=\"foo bar\",sort=\"a\")", "BadQuery at 3"),
-    ("search(c,rows=-1)", "BadParam search rows"),
-    ("search(c,rows=9223372036854775808)", "BadParam search rows"),
-    ("search(c,rows=\"5\",q=\"\")", "BadQuery at 0"),
-    ("search(c,rows= 1.0)", "BadParam search rows"),
-    // calls in calls: inputs, values and what has a new name
-    ("foo(bar())", "UnknownFunction foo"),
-    ("search(tuple(),c)", "WrongInputs search 1"),
-    (
-        "search(bar(),tuple(a=foo()),rows=-1)",
-        "WrongInputs search 2",
-    ),
-    ("tuple(sum(a))", "WrongInputs tuple 1"),
-    ("tuple(a=1,a=2,f(g(h())),i())", "WrongInputs tuple 2"),
-    ("tuple(a=sum(b))", "BadParam tuple a"),
-    ("tuple(a=1,a=sum(b))", "BadParam tuple a"),
-    ("tuple(sum(a) as b)", "BadParam tuple operand"),
-    ("tuple(sum(a) as b,a=1,a=2)", "BadParam tuple operand"),
-    ("search(c,q=f(x))", "BadParam search q"),
-    ("search(c,fq=f(x))", "BadParam search fq"),
-    ("search(c,qt=f(x),qt=g(x))", "BadParam search qt"),
-];
-
-#[test]
-fn each_first_fault_is_told(rt: HostRuntime) -> Result<(), Fail> {
-    for (expression, text) in FAULTS {
-        let found = told(rt.alloc(), expression)?;
-        assert_eq!(rt; found.as_str(), text, "of {expression}");
-    }
-    Ok(())
-}
+use tuple_values::Value;
 
 // Whether a search was read as its row of this test writes it.
 fn is_the_search(expr: &Expr) -> bool {
@@ -147,5 +57,135 @@ fn a_tuple_holds_its_literals(rt: HostRuntime) -> Result<(), Fail> {
     let call = read_expr(alloc, b"tuple(b=\"7\",c=7.5,a=-7)")?;
     let expr = plan(alloc, &call)?;
     assert!(rt; is_the_tuple(&expr));
+    Ok(())
+}
+
+fn has_field(items: &Items, place: usize, field: &str, new: &str) -> bool {
+    match items.get(place) {
+        Some(Item::Field { name, to }) => name.as_str() == field && to.as_str() == new,
+        _ => false,
+    }
+}
+
+fn has_replace(items: &Items, place: usize) -> bool {
+    let Some(Item::Replace { field, old, new }) = items.get(place) else {
+        return false;
+    };
+    let text = matches!(new, Some(Value::Text(w)) if w.as_str() == "null");
+    field.as_str() == "f" && old.is_none() && text
+}
+
+fn has_concat(items: &Items, place: usize) -> bool {
+    let Some(
+        Item::Concat {
+            fields,
+            into,
+            delim,
+        },
+    ) = items.get(place)
+    else {
+        return false;
+    };
+    fields.len() == 2 && fields.contains("b") && into.as_str() == "c" && delim.as_str() == "-"
+}
+
+fn is_the_select(expr: &Expr) -> bool {
+    let Expr::Select { input, items } = expr else {
+        return false;
+    };
+    is_the_tuple(input)
+        && items.len() == 5
+        && has_field(items, 0, "a", "b")
+        && has_replace(items, 1)
+        && has_field(items, 2, "sum(x)", "y")
+        && has_concat(items, 3)
+        && has_field(items, 4, "count(*)", "count(*)")
+}
+
+#[test]
+fn a_select_keeps_its_items(rt: HostRuntime) -> Result<(), Fail> {
+    let alloc = rt.alloc();
+    let text = "select(\"a as b\",replace(f,null,withValue=\"null\"),sum( x ) as y,\
+        tuple(b=\"7\",c=7.5,a=-7),concat(delim=-,as=c,fields=\"b, a\"),count(*))";
+    let call = read_expr(alloc, text.as_bytes())?;
+    let expr = plan(alloc, &call)?;
+    assert!(rt; is_the_select(&expr));
+    Ok(())
+}
+
+fn is_the_comparison(condition: &Condition) -> bool {
+    let Condition::Compare {
+        test,
+        field,
+        literal,
+    } = condition
+    else {
+        return false;
+    };
+    let number = matches!(literal, Value::Long(7));
+    *test == Comparison::Gteq && field.as_str() == "max(a)" && number
+}
+
+fn is_the_having(expr: &Expr) -> bool {
+    let Expr::Having { condition, .. } = expr else {
+        return false;
+    };
+    let Condition::OneOf(left, right) = condition else {
+        return false;
+    };
+    let Condition::Any(conditions) = &**left else {
+        return false;
+    };
+    conditions.len() == 2
+        && is_the_comparison(&conditions[1])
+        && matches!(&**right, Condition::Not(_))
+}
+
+#[test]
+fn a_having_keeps_its_condition(rt: HostRuntime) -> Result<(), Fail> {
+    let alloc = rt.alloc();
+    let text = b"having(tuple(a=1),eor(or(lt(b,x),gteq(max(a),007)),not(eq(b,1))))";
+    let call = read_expr(alloc, text)?;
+    let expr = plan(alloc, &call)?;
+    assert!(rt; is_the_having(&expr));
+    Ok(())
+}
+
+fn is_the_reduce(expr: &Expr) -> bool {
+    let Expr::Reduce { by, group, .. } = expr else {
+        return false;
+    };
+    by.len() == 1 && by.contains("a") && group.n == 5 && group.sort.len() == 2
+}
+
+fn is_the_rollup(expr: &Expr) -> bool {
+    let Expr::Rollup { over, metrics, .. } = expr else {
+        return false;
+    };
+    let min = matches!(metrics.get(0), Some(Metric::Min(field)) if field.as_str() == "b");
+    let count = matches!(metrics.get(1), Some(Metric::Count));
+    over.len() == 2 && over.contains("a") && metrics.len() == 2 && min && count
+}
+
+// A merge of three inputs: a reduce, a rollup and the tuple.
+fn is_the_merge(expr: &Expr) -> bool {
+    let Expr::Merge { inputs, on } = expr else {
+        return false;
+    };
+    inputs.len() == 3
+        && is_the_reduce(&inputs[0])
+        && is_the_rollup(&inputs[1])
+        && is_the_tuple(&inputs[2])
+        && on.len() == 1
+}
+
+#[test]
+fn a_merge_keeps_its_inputs(rt: HostRuntime) -> Result<(), Fail> {
+    let alloc = rt.alloc();
+    let text = "merge(reduce(tuple(),group(n=5,sort=\"a asc,b desc\"),by=a),on=\"a asc\",\
+        rollup(min(b),tuple(),over=\"a,c,a\",count(*)),tuple(b=\"7\",c=7.5,a=-7))";
+    let call = read_expr(alloc, text.as_bytes())?;
+    let expr = plan(alloc, &call)?;
+    assert!(rt; is_the_merge(&expr));
     Ok(())
 }

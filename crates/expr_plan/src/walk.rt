@@ -1,17 +1,23 @@
 // The arguments of a call, from the left to the right.
-ghost use Rattle.std.specs.Prelude.{◌≡◌, [], MatchResult, Ok};
+ghost use Rattle.std.specs.Prelude.{◌≡◌, MatchResult, Ok, option_map};
 ghost use Rattle.expr_reader.specs.Tree.{trees_of};
-ghost use Rattle.expr_reader.specs.Views.{arg_tree, named_tree};
+ghost use Rattle.expr_reader.specs.Views.{arg_tree, call_tree};
+ghost use Rattle.expr_plan.specs.Arguments.{nothing_given, walked, with_operand, with_read, with_plain, with_word, may_be_call, with_call, with_condition, with_helper, with_sub, with_renamed, with_arg, with_args};
+ghost use Rattle.expr_plan.specs.ConditionReading.{condition_of};
+ghost use Rattle.expr_plan.specs.Fault.{IsFaultOf};
 ghost use Rattle.expr_plan.specs.Functions.{next_operand, shape_of};
-ghost use Rattle.expr_plan.specs.Walk.{with_operand, with_word, may_be_call, with_call, with_arg, with_args, is_input, inputs_found, IsFaultOf};
+ghost use Rattle.expr_plan.specs.Walk.{inputs_found};
 
 use crate::PlanFault;
+use crate::conditions::condition_of;
 use crate::function::{Function, Shape};
+use crate::helpers::{helper_name, helper_param, is_full, is_helper, is_input, touches};
+use crate::items::{field_item, renamed_item};
 use crate::param::{Param, Params};
 use crate::reading::{bad, read_as};
-use expr_reader::{Arg, ArgValue, Args, Word};
+use expr_reader::{Arg, ArgValue, Args, Call, Word};
 use std::alloc::Global;
-use tuple_values::{Text, TryCopy};
+use tuple_values::{FieldList, Text, TryCopy};
 
 fn add_operand(
     alloc: Global,
@@ -20,9 +26,9 @@ fn add_operand(
     word: &Word,
 ) -> Result<(), PlanFault>
     ensures { MatchResult result
-        (λ _. with_operand function params.old.items.items word.now.text
-        (next_operand function params.old.items.items) ≡ Ok params.new.items.items)
-        (IsFaultOf (with_operand function params.old.items.items word.now.text
+        (λ _. with_operand function (walked params.old) word.now.text
+        (next_operand function params.old.items.items) ≡ Ok (walked params.new))
+        (IsFaultOf (with_operand function (walked params.old) word.now.text
         (next_operand function params.old.items.items))) }
 {
     match function.next_operand(params) {
@@ -35,22 +41,66 @@ fn add_operand(
     }
 }
 
+// What was read of a helper.
+fn add_read(
+    alloc: Global,
+    function: Function,
+    params: &mut Params,
+    read: Option<Param>,
+) -> Result<(), PlanFault>
+    ensures { MatchResult result
+        (λ _. with_read function (walked params.old) read ≡ Ok (walked params.new))
+        (IsFaultOf (with_read function (walked params.old) read)) }
+{
+    let name = helper_name(function);
+    match read {
+        Some(param) => {
+            params.push(Text::of(alloc, name)?, param)?;
+            Ok(())
+        }
+        None => Err(bad(alloc, function, name)?),
+    }
+}
+
+fn add_plain(
+    alloc: Global,
+    function: Function,
+    params: &mut Params,
+    word: &Word,
+) -> Result<(), PlanFault>
+    ensures { MatchResult result
+        (λ _. with_plain function (walked params.old) word.now.text ≡ Ok (walked params.new))
+        (IsFaultOf (with_plain function (walked params.old) word.now.text)) }
+{
+    match function {
+        Function::Select => {
+            let item = field_item(alloc, word.text.as_str())?;
+            add_read(alloc, function, params, item.map(Param::Item))
+        }
+        _ => add_operand(alloc, function, params, word),
+    }
+}
+
 fn add_word(
     alloc: Global,
     function: Function,
+    made: &FieldList,
     params: &mut Params,
     key: &Text,
     word: &Word,
 ) -> Result<(), PlanFault>
     ensures { MatchResult result
-        (λ _. with_word function params.old.items.items key.now word.now.text word.now.quoted
-        (shape_of function key.now) ≡ Ok params.new.items.items)
-        (IsFaultOf (with_word function params.old.items.items key.now word.now.text
+        (λ _. with_word function made.now (walked params.old) key.now word.now.text
+        word.now.quoted (shape_of function key.now) ≡ Ok (walked params.new))
+        (IsFaultOf (with_word function made.now (walked params.old) key.now word.now.text
         word.now.quoted (shape_of function key.now))) }
 {
     match function.shape_of(key.as_str()) {
         Some(shape) if !params.has(key.as_str()) => {
             let param = read_as(alloc, shape, function, key.as_str(), word)?;
+            if touches(made, &param) {
+                return Err(bad(alloc, function, key.as_str())?);
+            }
             params.push(key.copy(alloc)?, param)?;
             Ok(())
         }
@@ -79,9 +129,9 @@ fn add_call(
     key: &Text,
 ) -> Result<(), PlanFault>
     ensures { MatchResult result
-        (λ _. with_call function params.old.items.items key.now (shape_of function key.now)
-        ≡ Ok params.new.items.items)
-        (IsFaultOf (with_call function params.old.items.items key.now
+        (λ _. with_call function (walked params.old) key.now (shape_of function key.now)
+        ≡ Ok (walked params.new))
+        (IsFaultOf (with_call function (walked params.old) key.now
         (shape_of function key.now))) }
 {
     match function.shape_of(key.as_str()) {
@@ -93,58 +143,136 @@ fn add_call(
     }
 }
 
+fn add_condition(alloc: Global, params: &mut Params, call: &Call) -> Result<(), PlanFault>
+    ensures { MatchResult result
+        (λ _. with_condition (walked params.old) (condition_of (call_tree call.now))
+        ≡ Ok (walked params.new))
+        (IsFaultOf (with_condition (walked params.old) (condition_of (call_tree call.now)))) }
+{
+    match condition_of(alloc, call)? {
+        Some(condition) => {
+            params.push(Text::of(alloc, "condition")?, Param::Nothing)?;
+            params.put_condition(condition);
+            Ok(())
+        }
+        None => Err(bad(alloc, Function::Having, "condition")?),
+    }
+}
+
+fn add_helper(
+    alloc: Global,
+    function: Function,
+    params: &mut Params,
+    call: &Call,
+) -> Result<(), PlanFault>
+    ensures { MatchResult result
+        (λ _. with_helper function (walked params.old) (call_tree call.now)
+        ≡ Ok (walked params.new))
+        (IsFaultOf (with_helper function (walked params.old) (call_tree call.now))) }
+{
+    match function {
+        Function::Having => add_condition(alloc, params, call),
+        _ => {
+            let read = helper_param(alloc, function, call)?;
+            add_read(alloc, function, params, read)
+        }
+    }
+}
+
+fn add_sub(
+    alloc: Global,
+    function: Function,
+    params: &mut Params,
+    call: &Call,
+) -> Result<(), PlanFault>
+    ensures { MatchResult result
+        (λ _. with_sub function (walked params.old) (call_tree call.now)
+        ≡ Ok (walked params.new))
+        (IsFaultOf (with_sub function (walked params.old) (call_tree call.now))) }
+{
+    if !is_helper(function, call) {
+        return Ok(());
+    }
+    if is_full(function, params) {
+        return Err(bad(alloc, function, "operand")?);
+    }
+    add_helper(alloc, function, params, call)
+}
+
+fn add_renamed(
+    alloc: Global,
+    function: Function,
+    params: &mut Params,
+    call: &Call,
+    to: &Text,
+) -> Result<(), PlanFault>
+    ensures { MatchResult result
+        (λ _. with_renamed function (walked params.old) (call_tree call.now) to.now
+        ≡ Ok (walked params.new))
+        (IsFaultOf (with_renamed function (walked params.old) (call_tree call.now) to.now)) }
+{
+    match function {
+        Function::Select if is_helper(function, call) => {
+            let item = renamed_item(alloc, call, to)?;
+            add_read(alloc, function, params, item.map(Param::Item))
+        }
+        _ => Err(bad(alloc, function, "operand")?),
+    }
+}
+
 fn add_arg(
     alloc: Global,
     function: Function,
+    made: &FieldList,
     params: &mut Params,
     arg: &Arg,
 ) -> Result<(), PlanFault>
     ensures { MatchResult result
-        (λ _. with_arg function params.old.items.items (arg_tree arg.now)
-        ≡ Ok params.new.items.items)
-        (IsFaultOf (with_arg function params.old.items.items (arg_tree arg.now))) }
+        (λ _. with_arg function made.now (walked params.old) (arg_tree arg.now)
+        ≡ Ok (walked params.new))
+        (IsFaultOf (with_arg function made.now (walked params.old) (arg_tree arg.now))) }
 {
     match arg {
-        Arg::Plain(word) => add_operand(alloc, function, params, word),
+        Arg::Plain(word) => add_plain(alloc, function, params, word),
         Arg::Named {
             key,
             value: ArgValue::Plain(word),
-        } => add_word(alloc, function, params, key, word),
+        } => add_word(alloc, function, made, params, key, word),
         Arg::Named {
             key,
             value: ArgValue::Sub(_),
         } => add_call(alloc, function, params, key),
-        Arg::Sub(_) => Ok(()),
-        Arg::Renamed { .. } => Err(bad(alloc, function, "operand")?),
+        Arg::Sub(call) => add_sub(alloc, function, params, call),
+        Arg::Renamed { call, to } => add_renamed(alloc, function, params, call, to),
     }
 }
 
 /// The parameters of all arguments, or the first fault among them.
-pub(crate) fn params_of(alloc: Global, function: Function, args: &Args) -> Result<Params, PlanFault>
+pub(crate) fn params_of(
+    alloc: Global,
+    function: Function,
+    made: &FieldList,
+    args: &Args,
+) -> Result<Params, PlanFault>
     ensures { MatchResult result
-        (λ params. with_args function [] (trees_of args.now) ≡ Ok params.items.items)
-        (IsFaultOf (with_args function [] (trees_of args.now))) }
+        (λ params. with_args function made.now nothing_given (trees_of args.now)
+        ≡ Ok (walked params))
+        (IsFaultOf (with_args function made.now nothing_given (trees_of args.now))) }
 {
     let mut params = Params::new(alloc);
     for k in 0..args.count() {
-        add_arg(alloc, function, &mut params, args.get(k))?;
+        add_arg(alloc, function, made, &mut params, args.get(k))?;
     }
     Ok(params)
 }
 
-fn is_input(arg: &Arg) -> bool
-    ensures { result ≡ is_input (arg_tree arg.now) }
-{
-    matches!(arg, Arg::Sub(_))
-}
-
 /// How many arguments are inputs.
-pub(crate) fn inputs_found(args: &Args) -> u64
-    ensures { result ≡ inputs_found (trees_of args.now) }
+pub(crate) fn inputs_found(function: Function, args: &Args) -> u64
+    ensures { result ≡ inputs_found function (trees_of args.now) }
 {
     let mut found: u64 = 0;
     for k in 0..args.count() {
-        if is_input(args.get(k)) {
+        if is_input(function, args.get(k)) {
             found += 1;
         }
     }

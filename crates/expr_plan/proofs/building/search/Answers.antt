@@ -1,6 +1,6 @@
 use Rattle.std.proofs.Common.{sym, ◌∙◌}
 use Rattle.expr_plan.proofs.GivenLemmas.{search_found, search_is}
-use Rattle.expr_plan.proofs.planning.search.Goals as goal
+use Rattle.expr_plan.proofs.building.search.Goals as goal
 
 pub returns : goal.returns
 returns c =

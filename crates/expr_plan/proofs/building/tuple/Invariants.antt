@@ -1,6 +1,6 @@
 use Rattle.std.proofs.Common.{◌≡◌, []}
 use Rattle.expr_plan.specs.Walk.{with_fields}
-use Rattle.expr_plan.proofs.planning.tuple.Given as goal
+use Rattle.expr_plan.proofs.building.tuple.Given as goal
 
 -- the fields are those of the parameters so far
 abbrev pub invariant-loop-given : goal.invariant-loop-given

@@ -1,0 +1,180 @@
+// The expression of a function with its parameters and inputs.
+ghost use Rattle.std.specs.Prelude.{◌≡◌, [], IfOk, OnOk, map, option_map};
+ghost use Rattle.expr_plan.specs.Arguments.{walked};
+ghost use Rattle.expr_plan.specs.ConditionViews.{condition_tree};
+ghost use Rattle.expr_plan.specs.ExprTree.{tuple};
+ghost use Rattle.expr_plan.specs.ExprViews.{expr_tree};
+ghost use Rattle.expr_plan.specs.Walk.{expression, search_of, first_of, condition_or_all, with_field, with_fields};
+
+use crate::function::Function;
+use crate::param::{Given, Param, Params};
+use crate::{Condition, Expr, Exprs};
+use std::alloc::Global;
+use tuple_values::{Memory, Tuple};
+
+// A search with these parameters.
+fn search(alloc: Global, mut params: Params) -> Result<Expr, Memory>
+    ensures { IfOk result (λ e. expr_tree e ≡ search_of params.items.items) }
+{
+    let collection = params.take_text(alloc, "collection")?;
+    let q = params.take_query(alloc, "q");
+    let fl = params.take_names(alloc, "fl");
+    let sort = params.take_sort(alloc, "sort");
+    let rows = params.take_number("rows");
+    let partition_keys = params.take_names_maybe("partitionKeys");
+    Ok(Expr::Search {
+        collection,
+        q,
+        fl,
+        sort,
+        rows,
+        partition_keys,
+    })
+}
+
+fn put_field(tuple: &mut Tuple, given: Given) -> Result<(), Memory>
+    ensures { OnOk result (tuple.new ≡ with_field tuple.old given.name given.param) }
+{
+    let Given { name, param } = given;
+    if let Param::Literal(value) = param {
+        tuple.put(name, value)?;
+    }
+    Ok(())
+}
+
+// A tuple of these parameters.
+#[tactic(auto, using(crate::proofs::GivenLemmas::field_steps))]
+fn tuple(alloc: Global, params: Params) -> Result<Expr, Memory>
+    ensures { IfOk result (λ e. expr_tree e ≡ tuple (with_fields [] params.items.items)) }
+{
+    let mut fields = Tuple::empty(alloc);
+    for given in params.into_vec() {
+        put_field(&mut fields, given)?;
+    }
+    Ok(Expr::Tuple { fields })
+}
+
+// The first input.
+fn first_of(alloc: Global, inputs: Exprs) -> Result<Box<Expr>, Memory>
+    ensures { IfOk result (λ e. expr_tree e.value ≡ first_of (map expr_tree inputs.items)) }
+{
+    match inputs.into_iter().next() {
+        Some(input) => Ok(Box::new(alloc, input)?),
+        None => {
+            let fields = Tuple::empty(alloc);
+            Ok(Box::new(alloc, Expr::Tuple { fields })?)
+        }
+    }
+}
+
+// The condition that was given.
+fn condition_or_all(alloc: Global, condition: Option<Condition>) -> Condition
+    ensures { condition_tree result ≡ condition_or_all (option_map condition_tree condition) }
+{
+    match condition {
+        Some(condition) => condition,
+        None => Condition::All(Vec::new(alloc)),
+    }
+}
+
+fn select(alloc: Global, params: Params, inputs: Exprs) -> Result<Expr, Memory>
+    ensures { IfOk result (λ e. expr_tree e
+        ≡ expression Function.Select (walked params) (map expr_tree inputs.items)) }
+{
+    let input = first_of(alloc, inputs)?;
+    let items = params.into_items(alloc)?;
+    Ok(Expr::Select { input, items })
+}
+
+fn having(alloc: Global, mut params: Params, inputs: Exprs) -> Result<Expr, Memory>
+    ensures { IfOk result (λ e. expr_tree e
+        ≡ expression Function.Having (walked params) (map expr_tree inputs.items)) }
+{
+    let input = first_of(alloc, inputs)?;
+    let condition = condition_or_all(alloc, params.take_condition());
+    Ok(Expr::Having { input, condition })
+}
+
+fn sort(alloc: Global, mut params: Params, inputs: Exprs) -> Result<Expr, Memory>
+    ensures { IfOk result (λ e. expr_tree e
+        ≡ expression Function.Sort (walked params) (map expr_tree inputs.items)) }
+{
+    let input = first_of(alloc, inputs)?;
+    let by = params.take_sort(alloc, "by");
+    Ok(Expr::Sort { input, by })
+}
+
+fn top(alloc: Global, mut params: Params, inputs: Exprs) -> Result<Expr, Memory>
+    ensures { IfOk result (λ e. expr_tree e
+        ≡ expression Function.Top (walked params) (map expr_tree inputs.items)) }
+{
+    let input = first_of(alloc, inputs)?;
+    let n = params.take_count("n");
+    let sort = params.take_sort(alloc, "sort");
+    Ok(Expr::Top { input, n, sort })
+}
+
+fn unique(alloc: Global, mut params: Params, inputs: Exprs) -> Result<Expr, Memory>
+    ensures { IfOk result (λ e. expr_tree e
+        ≡ expression Function.Unique (walked params) (map expr_tree inputs.items)) }
+{
+    let input = first_of(alloc, inputs)?;
+    let over = params.take_names(alloc, "over");
+    Ok(Expr::Unique { input, over })
+}
+
+fn merge(alloc: Global, mut params: Params, inputs: Exprs) -> Result<Expr, Memory>
+    ensures { IfOk result (λ e. expr_tree e
+        ≡ expression Function.Merge (walked params) (map expr_tree inputs.items)) }
+{
+    let on = params.take_sort(alloc, "on");
+    Ok(Expr::Merge { inputs, on })
+}
+
+fn reduce(alloc: Global, mut params: Params, inputs: Exprs) -> Result<Expr, Memory>
+    ensures { IfOk result (λ e. expr_tree e
+        ≡ expression Function.Reduce (walked params) (map expr_tree inputs.items)) }
+{
+    let input = first_of(alloc, inputs)?;
+    let by = params.take_names(alloc, "by");
+    let group = params.take_group(alloc, "group");
+    Ok(Expr::Reduce { input, by, group })
+}
+
+fn rollup(alloc: Global, mut params: Params, inputs: Exprs) -> Result<Expr, Memory>
+    ensures { IfOk result (λ e. expr_tree e
+        ≡ expression Function.Rollup (walked params) (map expr_tree inputs.items)) }
+{
+    let input = first_of(alloc, inputs)?;
+    let over = params.take_names(alloc, "over");
+    let metrics = params.into_metrics(alloc)?;
+    Ok(Expr::Rollup {
+        input,
+        over,
+        metrics,
+    })
+}
+
+/// The expression of a function with these parameters and inputs.
+pub(crate) fn expression(
+    alloc: Global,
+    function: Function,
+    params: Params,
+    inputs: Exprs,
+) -> Result<Expr, Memory>
+    ensures { IfOk result (λ e. expr_tree e
+        ≡ expression function (walked params) (map expr_tree inputs.items)) }
+{
+    match function {
+        Function::Search => search(alloc, params),
+        Function::Tuple => tuple(alloc, params),
+        Function::Select => select(alloc, params, inputs),
+        Function::Having => having(alloc, params, inputs),
+        Function::Sort => sort(alloc, params, inputs),
+        Function::Top => top(alloc, params, inputs),
+        Function::Unique => unique(alloc, params, inputs),
+        Function::Merge => merge(alloc, params, inputs),
+        Function::Reduce => reduce(alloc, params, inputs),
+        Function::Rollup => rollup(alloc, params, inputs),
+    }
+}
