@@ -1,0 +1,9 @@
+pub mod NeedLemmas
+pub mod TextLemmas
+pub mod WalkLemmas
+pub mod FaultLemmas
+pub mod AscendLemmas
+pub mod AgreeLemmas
+pub mod ChosenLemmas
+pub mod KeyLemmas
+pub mod LawLemmas

@@ -1,0 +1,97 @@
+-- In which order an expression gives its tuples (own, after Solr Reference Guide, "Stream Decorator
+-- Reference": each function's order follows from those of its inputs).
+use Rattle.std.specs.Prelude.{ℕ, ◌≤◌, List, [], ◌∷◌, length, take, Option, Some, None, Bool}
+use Rattle.std.specs.Prelude.{true, false, not, ◌&&◌, bytes_eq, if◌then◌else◌}
+use Rattle.tuple_values.specs.Document.{ByteList, Doc}
+use Rattle.sort_spec.specs.Sorting.{IsAscending}
+use Rattle.sort_spec.specs.Terms.{less}
+use Rattle.sort_spec.specs.declared.term.SortTerm.{SortTerm}
+use Rattle.expr_plan.specs.declared.item.Item.{Item}
+use Rattle.expr_plan.specs.declared.item.Item.TheVariants.{Field, Replace, Concat}
+use Rattle.expr_plan.specs.ExprTree.{ExprTree, search, tuple, select, having, sort, top, unique}
+use Rattle.expr_plan.specs.ExprTree.{merge}
+use Rattle.expr_plan.specs.ExprTree.{reduce, rollup, ExprTrees, no_exprs, an_expr}
+use Rattle.expr_check.specs.declared.order.Order.{Order}
+use Rattle.expr_check.specs.declared.order.Order.TheVariants.{Any, By}
+
+-- the documents are in the order: at most one, or in the order of the terms
+abbrev pub IsInOrder : Order → List Doc → Type 0
+IsInOrder Any docs = length docs ≤ 1
+IsInOrder (By terms) docs = IsAscending (less terms) docs
+
+-- the item gives a value to this name
+abbrev pub touches : ByteList → Item → Bool
+touches name (Field field to) = bytes_eq to name
+touches name (Replace field old new) = bytes_eq field name
+touches name (Concat fields into delim) = bytes_eq into name
+
+-- no item gives a value to this name
+abbrev pub is_untouched : ByteList → List Item → Bool
+is_untouched name [] = true
+is_untouched name (item ∷ items) = not (touches name item) && is_untouched name items
+
+-- just one item gives a value to this name
+abbrev pub is_touched_once : ByteList → List Item → Bool
+is_touched_once name [] = false
+is_touched_once name (item ∷ items) =
+    if touches name item then is_untouched name items else is_touched_once name items
+
+-- the new name of the field, where the item chooses it
+abbrev pub name_in : ByteList → Item → Option ByteList
+name_in field (Field other to) = if bytes_eq other field then Some to else None
+name_in field (Replace other old new) = None
+name_in field (Concat fields into delim) = None
+
+-- or else another one
+abbrev pub or_name : Option ByteList → Option ByteList → Option ByteList
+or_name None other = other
+or_name (Some name) other = Some name
+
+-- the new name of the field by the first item that chooses it
+abbrev pub new_name : ByteList → List Item → Option ByteList
+new_name field [] = None
+new_name field (item ∷ items) = or_name (name_in field item) (new_name field items)
+
+-- a term under its new name before others, where no other item gives a value to that name
+abbrev pub kept_term : List Item → SortTerm → Option ByteList → List SortTerm → List SortTerm
+kept_term items term None rest = []
+kept_term items term (Some name) rest =
+    if is_touched_once name items
+    then record { field = name; descending = term.descending } ∷ rest else []
+
+-- the longest prefix of the terms that are chosen, each under its first new name, where no other
+-- item gives a value to that name
+abbrev pub kept_terms : List Item → List SortTerm → List SortTerm
+kept_terms items [] = []
+kept_terms items (term ∷ terms) =
+    kept_term items term (new_name term.field items) (kept_terms items terms)
+
+-- an order after select
+abbrev pub kept_order : List Item → Order → Order
+kept_order items Any = Any
+kept_order items (By terms) = By (kept_terms items terms)
+
+-- an order by the first so many terms
+abbrev pub first_terms : ℕ → Order → Order
+first_terms k Any = Any
+first_terms k (By terms) = By (take k terms)
+
+-- the order of an expression; of functions that no call stands for yet it is that of no term
+abbrev mutual
+  pub order_of : ExprTree → Order
+  order_of (search p) = By p.sort
+  order_of (tuple fields) = Any
+  order_of (select e items) = kept_order items (order_of e)
+  order_of (having e condition) = order_of e
+  order_of (sort e by) = By by
+  order_of (top e n by) = By by
+  order_of (unique e over) = order_of e
+  order_of (merge inputs on) = By on
+  order_of (reduce e by op) = first_terms (length by) (order_of e)
+  order_of (rollup e over metrics) = first_terms (length over) (order_of e)
+  order_of _ = By []
+
+  -- the orders of the inputs of a merge
+  pub orders_of : ExprTrees → List Order
+  orders_of no_exprs = []
+  orders_of (an_expr e exprs) = order_of e ∷ orders_of exprs

@@ -1,0 +1,83 @@
+// Expressions that may be evaluated.
+ghost use Rattle.std.specs.Prelude.{◌≡◌, true};
+ghost use Rattle.std.specs.Coded.{Coded-set};
+ghost use Rattle.expr_plan.specs.Lists.{AreKeysKept};
+ghost use Rattle.expr_plan.specs.ExprViews.{expr_tree};
+ghost use Rattle.expr_check.specs.Kept.{kept-prop};
+ghost use Rattle.expr_check.specs.Orders.{order_of};
+ghost use Rattle.expr_check.specs.Faults.{are_met};
+ghost use Rattle.expr_check.specs.Reads.{collections_of};
+
+use crate::Order;
+use crate::reads::are_known;
+use expr_plan::Expr;
+use tuple_values::{FieldList, Names};
+
+/// An expression that may be evaluated: each input has the order that its function needs.
+#[derive(Debug, Drop)]
+pub struct Checked {
+    expr: Expr,
+    order: Order,
+    collections: FieldList,
+    pub ghost kept: { AreKeysKept (expr_tree expr) } by { kept-prop (expr_tree expr) },
+    pub ghost met: { are_met (expr_tree expr) ≡ true },
+    pub ghost ordered: { order ≡ order_of (expr_tree expr) } by { Coded-set order-code _ _ },
+    pub ghost reads: { collections ≡ collections_of (expr_tree expr) },
+}
+
+impl Checked {
+    ghost use Rattle.expr_plan.specs.Lists.{Collections, list_of, AreSorted};
+    ghost use Rattle.expr_check.specs.Orders.{IsInOrder};
+    ghost use Rattle.expr_check.specs.Reads.{are_known};
+    ghost use Rattle.expr_check.specs.Views.{expr_of, tree_of};
+
+    // The expression with what was found of it.
+    pub(crate) fn new(expr: Expr, order: Order, collections: FieldList) -> Checked
+        requires kept { AreKeysKept (expr_tree expr) }
+        requires met { are_met (expr_tree expr) ≡ true }
+        requires ordered { order ≡ order_of (expr_tree expr) }
+        requires reads { collections ≡ collections_of (expr_tree expr) }
+        ensures { expr_of result ≡ expr }
+    {
+        Checked {
+            expr,
+            order,
+            collections,
+        }
+    }
+
+    /// The expression.
+    pub fn expr(&self) -> &Expr
+        ensures value { result.now ≡ expr_of self.now }
+
+        // Whatever the documents are, each input has the order that its function needs.
+        ensures sorted { (docs : Collections) → AreSorted docs (expr_tree result.now) }
+    {
+        &self.expr
+    }
+
+    /// The order in which the expression gives its tuples.
+    pub fn order(&self) -> &Order
+        ensures value { result.now ≡ order_of (tree_of self.now) }
+
+        // Whatever the documents are, what the expression gives is in this order.
+        ensures ordered { (docs : Collections)
+            → IsInOrder result.now (list_of docs (tree_of self.now)) }
+    {
+        &self.order
+    }
+
+    /// The collections that the expression reads, each once, in the walk's order.
+    pub fn collections(&self) -> &FieldList
+        ensures { result.now ≡ collections_of (tree_of self.now) }
+    {
+        &self.collections
+    }
+
+    /// Whether each collection that the expression reads is there. Takes no memory.
+    pub fn stands_on(&self, names: &Names) -> bool
+        ensures { result ≡ are_known (collections_of (tree_of self.now)) names.now }
+    {
+        are_known(&self.collections, names)
+    }
+}

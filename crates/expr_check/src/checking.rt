@@ -1,0 +1,45 @@
+// The check of an expression.
+ghost use Rattle.std.specs.Prelude.{◌≡◌, ◌≢◌, None, Some, IfOk, IfErr, OnOk};
+ghost use Rattle.expr_plan.specs.Lists.{AreKeysKept};
+ghost use Rattle.expr_plan.specs.ExprViews.{expr_tree};
+ghost use Rattle.expr_check.specs.Faults.{fault_of};
+ghost use Rattle.expr_check.specs.Law.{InputsAreSorted, ListsAreInOrder};
+ghost use Rattle.expr_check.specs.Views.{expr_of};
+ghost use Rattle.expr_check.specs.declared.fault.CheckFault.TheVariants.{OutOfMemory};
+
+use crate::reads::add_searched;
+use crate::walk::{Walked, walk};
+use crate::{CheckFault, Checked};
+use expr_plan::Expr;
+use std::alloc::Global;
+use tuple_values::{FieldList, Names};
+
+/// Checks that an expression may be evaluated over collections of these names. The expression is
+/// moved in, and dropped after an `Err`.
+pub fn check(alloc: Global, expr: Expr, names: &Names) -> Result<Checked, CheckFault>
+    // No key's field is given another value: no `group` in `by`, no metric's name in `over`.
+    requires kept { AreKeysKept (expr_tree expr) }
+
+    // It may be evaluated only where there is no fault, and the fault is the first one.
+    ensures ok { OnOk result (fault_of names.now (expr_tree expr) ≡ None) }
+    ensures err { IfErr result (λ fault. fault ≢ OutOfMemory
+        → fault_of names.now (expr_tree expr) ≡ Some fault) }
+
+    // What is checked is this expression.
+    ensures whole { IfOk result (λ checked. expr_of checked ≡ expr) }
+{
+    let Walked { order, fault } = walk(alloc, &expr, names)?;
+    if let Some(fault) = fault {
+        return Err(fault);
+    }
+    let mut collections = FieldList::new(alloc);
+    add_searched(alloc, &expr, &mut collections)?;
+    Ok(Checked::new(expr, order, collections))
+}
+
+/// The law of expressions: where there is no fault, each input is in the order that its function
+/// needs, and what the expression gives is in its order, whatever the documents are.
+pub fn orders_hold()
+    ensures sorted { InputsAreSorted }
+    ensures ordered { ListsAreInOrder }
+{}

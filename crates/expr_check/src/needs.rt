@@ -1,0 +1,85 @@
+// Which orders a function needs of its inputs.
+ghost use Rattle.std.specs.Prelude.{◌≡◌, IfOk};
+ghost use Rattle.expr_check.specs.Needs.{meets_sort, meets_names, names_first};
+ghost use Rattle.expr_check.specs.Faults.{names_fault, sort_fault};
+
+use crate::texts::{has_text, names_text, sort_text};
+use crate::{CheckFault, Order};
+use sort_spec::{SortSpec, SortTerm};
+use std::alloc::Global;
+use tuple_values::{FieldList, Memory, Text};
+
+// Whether the names are the fields of the first terms, in order.
+fn names_first(names: &[Text], terms: &[SortTerm]) -> bool
+    ensures { result ≡ names_first names.now terms.now }
+{
+    let mut rest = terms;
+    for name in names {
+        match rest {
+            [term, more @ ..] if term.field.as_str() == name.as_str() => rest = more,
+            _ => return false,
+        }
+    }
+    true
+}
+
+fn meets_names(names: &FieldList, order: &Order) -> bool
+    ensures { result ≡ meets_names names.now order.now }
+{
+    match order {
+        Order::Any => true,
+        Order::By(sort) => names_first(names.as_slice(), sort.as_slice()),
+    }
+}
+
+fn meets_sort(on: &SortSpec, order: &Order) -> bool
+    ensures { result ≡ meets_sort on.now order.now }
+{
+    match order {
+        Order::Any => true,
+        Order::By(sort) => on.is_prefix_of(sort),
+    }
+}
+
+/// The fault of a function that needs the names as first fields, at an input of this order.
+pub(crate) fn names_fault(
+    alloc: Global,
+    function: &str,
+    names: &FieldList,
+    order: &Order,
+) -> Result<Option<CheckFault>, Memory>
+    ensures { IfOk result (λ fault. fault ≡ names_fault function.now names.now order.now) }
+{
+    if meets_names(names, order) {
+        return Ok(None);
+    }
+    let function = Text::of(alloc, function)?;
+    let needed = names_text(alloc, names)?;
+    let has = has_text(alloc, order)?;
+    Ok(Some(CheckFault::NotSorted {
+        function,
+        needed,
+        has,
+    }))
+}
+
+/// The fault of a merge at an input of this order.
+pub(crate) fn sort_fault(
+    alloc: Global,
+    on: &SortSpec,
+    order: &Order,
+) -> Result<Option<CheckFault>, Memory>
+    ensures { IfOk result (λ fault. fault ≡ sort_fault on.now order.now) }
+{
+    if meets_sort(on, order) {
+        return Ok(None);
+    }
+    let function = Text::of(alloc, "merge")?;
+    let needed = sort_text(alloc, on)?;
+    let has = has_text(alloc, order)?;
+    Ok(Some(CheckFault::NotSorted {
+        function,
+        needed,
+        has,
+    }))
+}
