@@ -1,0 +1,4 @@
+pub mod Flows
+pub mod Kernels
+pub mod Views
+pub mod Falls
