@@ -16,7 +16,8 @@ use Rattle.exchange_rules.specs.Rows.{Layout, part_of, cut_shards, cut_course}
 use Rattle.exchange_rules.proofs.AloneLemmas.{answers_alone}
 use Rattle.expr_plan.specs.ExprTree.{ExprTree}
 use Rattle.stream_site.specs.Plains.{Plain, empty_site, layout_of, writer_of}
-use Rattle.stream_handler.specs.Expressions.{collections, expression_of, list_of}
+use Rattle.expr_check.specs.Reads.{collections_of}
+use Rattle.stream_handler.specs.Expressions.{expression_of, list_over}
 use Rattle.stream_handler.specs.Requests.{plain_course}
 use Rattle.stream_handler.specs.declared.outcome.Outcome.{Outcome}
 use Rattle.stream_handler.specs.declared.outcome.Outcome.TheVariants.{ResultSet}
@@ -78,10 +79,10 @@ expression_alone : (me : ℕ) (logs : List Log) → AreEmpty logs → (l : Layou
 expression_alone me logs empty l (Err text) = refl
 expression_alone me logs empty l (Ok e) =
     ap (λ (r : List Log × Outcome). r.1)
-    (alone_then me logs (cut_course l.names [] (collections e))
-    (λ cut. ends (ResultSet (list_of e cut) None))
-    ∙ ap (λ (r : List Log × List CutPart). run_alone me r.0 (ends (ResultSet (list_of e r.1) None)))
-    (cut_alone me logs empty l.names [] (collections e)))
+    (alone_then me logs (cut_course l.names [] (collections_of e))
+    (λ cut. ends (ResultSet (list_over e cut) None))
+    ∙ ap (λ (r : List Log × List CutPart). run_alone me r.0 (ends (ResultSet (list_over e r.1) None)))
+    (cut_alone me logs empty l.names [] (collections_of e)))
 
 -- over collections that are empty it is what the bytes mean
 pub alone_outcome-is : (names : List NameShards) (bytes : ByteList)

@@ -34,7 +34,7 @@ use Rattle.stream_handler.proofs.WaitLemmas.{said_first}
 use Rattle.std.proofs.lemmas.Grind.{flat_map-append}
 use Rattle.solr_streams.specs.Endings.{HasRisen, IsEndingOf, Writes, WritesFor}
 use Rattle.solr_streams.specs.Replies.{layout, logs_at_start}
-use Rattle.solr_streams.specs.Scripts.{IsScriptBegun, IsScriptRun, replies_alone, replies_over, tail_text}
+use Rattle.solr_streams.specs.Scripts.{IsScriptBegun, IsScriptRead, IsScriptRun, replies_alone, replies_over, tail_text}
 use Rattle.solr_streams.specs.Serving.{HasServed, ending_of}
 
 -- where one writer is alone, the replies are a function of the messages
@@ -148,18 +148,14 @@ module _ (names : List NameShards) (all : List ℕ) (reads : ℕ) (written : Opt
 
   -- where it was not read to its end
   read_part : (held : ℕ) → IsUnfinished names old new answers held
-      → IsScriptBegun names all new.left written new.written
+      → IsScriptRead names all new.left written new.written
   read_part held q = record {
-    read = q.stands.bytes;
-    lost = [];
-    came = none_lost all new.left q.stands.bytes q.stands.came;
     messages = messages_of answers;
-    text = said q.asks;
-    behind = inl (Rest held q.asks, q.stands.reads, refl);
-    front = replies_of answers ++ said q.asks;
-    rest = [];
-    written = q.written;
-    begins = ap (λ t. t ++ said q.asks) (sym replies) ∙ sym (append-nil (replies_of answers ++ said q.asks));
+    after = Rest held q.asks;
+    read = q.stands.bytes;
+    came = q.stands.came;
+    reads = q.stands.reads;
+    written = subst (λ t. Appends written new.written (t ++ said q.asks)) replies q.written;
   }
 
   stuck_part : IsStuck names old new answers → IsScriptBegun names all new.left written new.written

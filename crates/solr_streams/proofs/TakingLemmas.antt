@@ -2,8 +2,9 @@
 use Rattle.std.proofs.Common.{◌≡◌, ℕ, ◌+◌, ◌≤◌, List, [], ◌++◌, length, take, drop, Option, Some, None, refl, ap, sym, ◌∙◌, subst, arith, length-append, length-drop, length-take}
 use Rattle.std.proofs.lemmas.List.{drop-drop, take-append-le, take_all, drop_all}
 use Rattle.std.proofs.Math.Seq.{take-add}
+use Rattle.std.specs.Prelude.{IfSome}
 use Rattle.io_edge.specs.Edge.{GivesFront, HasEnded}
-use Rattle.solr_streams.specs.Inputs.{limit, HasTaken, IsInput}
+use Rattle.solr_streams.specs.Inputs.{limit, HasTaken, IsInput, IsReadWithin}
 
 limit-is : limit ≡ 65537
 unfolding limit
@@ -40,3 +41,9 @@ taken_full (Some all) mid bytes h full = (
   h.1 ∙ ap (λ k. take k all) (full ∙ sym limit-is),
   h.2 ∙ ap (λ k. Some (drop k all)) (full ∙ sym limit-is),
 )
+
+-- no more than the limit was taken
+pub taken_within : (old new : Option (List ℕ)) (bytes : List ℕ) → HasTaken old new bytes
+    → length bytes ≤ 65537 → IfSome old (λ all. IsReadWithin all new)
+taken_within None new bytes h small = tt
+taken_within (Some all) new bytes h small = (bytes, h, omega (arith, limit-is, small))

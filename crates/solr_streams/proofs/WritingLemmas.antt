@@ -11,13 +11,13 @@ use Rattle.stream_handler.specs.Outcomes.{body_of}
 use Rattle.stream_handler.specs.declared.outcome.Outcome.{Outcome}
 use Rattle.solr_streams.specs.Inputs.{limit, IsInput, IsReadOut}
 use Rattle.solr_streams.specs.Replies.{meaning, reply, reply_of, outcome_of}
-use Rattle.solr_streams.specs.Commands.{IsAnswered, IsRefused, IsBegun, IsCut, IsLeft, IsStopped}
+use Rattle.solr_streams.specs.Commands.{IsAnswered, IsRefused, IsBegun, IsBroken, IsCut, IsStarved, IsStopped}
 use Rattle.solr_streams.specs.Evaluations.{ending_of}
 use Rattle.solr_streams.specs.Endings.{EndsFor, WritesFor, Writes}
 use Rattle.solr_streams.specs.declared.ending.Ending.{Ending}
 use Rattle.solr_streams.specs.declared.ending.Ending.TheVariants.{Done, InputFailed, OutputFailed, WordsRefused, Faulty, OutOfMemory, InputCut, MessageRefused}
 use Rattle.form_request.specs.declared.reading.After.TheVariants.{Refusal, Rest}
-use Rattle.solr_streams.proofs.BegunLemmas.{script_run}
+use Rattle.solr_streams.proofs.BegunLemmas.{script_read, script_run}
 
 -- the reply to an outcome tells its meaning
 body_of-outcome_of : (m : Result (List Doc) ByteList) → body_of (outcome_of m) 0 ≡ reply_of m
@@ -70,12 +70,19 @@ reply_begun names (Some all) left bytes read o piece old new input same means wr
           (writes ∙ (ap (λ (x : Outcome). body_of x 0) outcome_is ∙ body_of-outcome_of m)) app,
     )
 
--- where a run stops, a first part of what is to be written is
-left_begun : (command : Option Command) (all : List ℕ) (left old new : Option (List ℕ))
-    → IsLeft command all left old new → IsBegun command all left old new
-left_begun None all left old new is = is
-left_begun (Some (Eval names)) all left old new is = inl is
-left_begun (Some (Script names)) all left old new is = is
+-- where memory was wanting, a first part of what is to be written is
+starved_begun : (command : Option Command) (all : List ℕ) (left old new : Option (List ℕ))
+    → IsStarved command all left old new → IsBegun command all left old new
+starved_begun None all left old new is = is
+starved_begun (Some (Eval names)) all left old new is = inl is
+starved_begun (Some (Script names)) all left old new is = is
+
+-- and where input failed
+broken_begun : (command : Option Command) (all : List ℕ) (left old new : Option (List ℕ))
+    → IsBroken command all left old new → IsBegun command all left old new
+broken_begun None all left old new is = absurd is
+broken_begun (Some (Eval names)) all left old new is = inl is
+broken_begun (Some (Script names)) all left old new is = script_read names all left old new is
 
 -- the whole of a reply is a first part of it
 whole_begun : (old new : Option (List ℕ)) (bytes : ByteList) → Appends old new bytes
@@ -126,12 +133,13 @@ begun_for : (end : Ending) (command : Option Command) (all : List ℕ)
     (left old new : Option (List ℕ)) → EndsFor command end
     → WritesFor end command all left old new → IsBegun command all left old new
 begun_for Done command all left old new ends w = answered_begun command all left old new w
-begun_for InputFailed command all left old new ends w = left_begun command all left old new w
+begun_for InputFailed command all left old new ends w = broken_begun command all left old new w
 begun_for OutputFailed command all left old new ends w = w
 begun_for WordsRefused command all left old new ends w =
     refused_words command all left old new ends w
 begun_for Faulty command all left old new ends w = refused_begun command all left old new w
-begun_for OutOfMemory command all left old new ends w = left_begun command all left old new w
+begun_for OutOfMemory command all left old new ends w =
+    starved_begun command all left old new w
 begun_for InputCut command all left old new ends w = cut_begun command all left old new w
 begun_for (MessageRefused status) command all left old new ends w =
     stopped_begun command status all left old new w

@@ -4,8 +4,9 @@ use Rattle.tuple_values.specs.Document.{ByteList}
 use Rattle.command_words.specs.Commands.{command_of}
 use Rattle.command_words.specs.declared.command.Command.{Command}
 use Rattle.command_words.specs.declared.command.Command.TheVariants.{Eval, Script}
-use Rattle.solr_streams.specs.Evaluations.{IsEvaluated, IsFaultTold, IsReplyWithin}
-use Rattle.solr_streams.specs.Scripts.{IsCarriedThrough, IsCutShort, IsScriptBegun, IsStoppedAt}
+use Rattle.solr_streams.specs.Evaluations.{IsEvaluated, IsFaultTold, IsReplyWithin, IsUnanswered}
+use Rattle.solr_streams.specs.Scripts.{IsCarriedThrough, IsCutShort, IsScriptBegun, IsScriptRead}
+use Rattle.solr_streams.specs.Scripts.{IsStoppedAt}
 
 -- there is a command
 abbrev pub IsThere : Option Command → Type 0
@@ -48,12 +49,19 @@ IsBegun None all left old new = new ≡ old
 IsBegun (Some (Eval names)) all left old new = IsReplyWithin names all left old new
 IsBegun (Some (Script names)) all left old new = IsScriptBegun names all left old new
 
--- where a run stops before it has written all: `eval` has written nothing, a script a first part
-abbrev pub IsLeft : Option Command → List ℕ → Option (List ℕ) → Option (List ℕ)
+-- where memory was wanting: `eval` has written nothing, a script a first part
+abbrev pub IsStarved : Option Command → List ℕ → Option (List ℕ) → Option (List ℕ)
     → Option (List ℕ) → Type 0
-IsLeft None all left old new = new ≡ old
-IsLeft (Some (Eval names)) all left old new = new ≡ old
-IsLeft (Some (Script names)) all left old new = IsScriptBegun names all left old new
+IsStarved None all left old new = new ≡ old
+IsStarved (Some (Eval names)) all left old new = IsUnanswered all left old new
+IsStarved (Some (Script names)) all left old new = IsScriptBegun names all left old new
+
+-- where input failed: `eval` has written nothing, a script all that the bytes before ask for
+abbrev pub IsBroken : Option Command → List ℕ → Option (List ℕ) → Option (List ℕ)
+    → Option (List ℕ) → Type 0
+IsBroken None all left old new = ⊥
+IsBroken (Some (Eval names)) all left old new = IsUnanswered all left old new
+IsBroken (Some (Script names)) all left old new = IsScriptRead names all left old new
 
 -- such an input ends inside a message of a script
 abbrev pub IsCut : Option Command → List ℕ → Option (List ℕ) → Option (List ℕ)

@@ -6,7 +6,8 @@ use Rattle.tuple_values.specs.Document.{ByteList}
 use Rattle.command_words.specs.Commands.{command_of}
 use Rattle.command_words.specs.declared.command.Command.{Command}
 use Rattle.command_words.specs.declared.command.Command.TheVariants.{Eval, Script}
-use Rattle.solr_streams.specs.Commands.{IsAnswered, IsRefused, IsBegun, IsCut, IsLeft, IsStopped, IsEval, IsScript}
+use Rattle.solr_streams.specs.Commands.{IsAnswered, IsRefused, IsBegun, IsBroken, IsCut, IsStarved}
+use Rattle.solr_streams.specs.Commands.{IsStopped, IsEval, IsScript}
 use Rattle.solr_streams.specs.declared.ending.Ending.{Ending}
 use Rattle.solr_streams.specs.declared.ending.Ending.TheVariants.{Done, InputFailed, OutputFailed, WordsRefused, Faulty, OutOfMemory, InputCut, MessageRefused}
 
@@ -52,11 +53,11 @@ fixed_line (MessageRefused status) = []
 abbrev pub WritesFor : Ending → Option Command → List ℕ → Option (List ℕ) → Option (List ℕ)
     → Option (List ℕ) → Type 0
 WritesFor Done command all left old new = IsAnswered command all left old new
-WritesFor InputFailed command all left old new = IsLeft command all left old new
+WritesFor InputFailed command all left old new = IsBroken command all left old new
 WritesFor OutputFailed command all left old new = IsBegun command all left old new
 WritesFor WordsRefused command all left old new = new ≡ old
 WritesFor Faulty command all left old new = IsRefused command all left old new
-WritesFor OutOfMemory command all left old new = IsLeft command all left old new
+WritesFor OutOfMemory command all left old new = IsStarved command all left old new
 WritesFor InputCut command all left old new = IsCut command all left old new
 WritesFor (MessageRefused status) command all left old new = IsStopped command status all left old new
 

@@ -4,7 +4,7 @@ use Rattle.tuple_values.specs.declared.names.NameShards.{NameShards}
 use Rattle.stream_handler.specs.declared.outcome.Outcome.{Outcome}
 use Rattle.stream_handler.specs.declared.outcome.Outcome.TheVariants.{Indexed, Refused, ResultSet}
 use Rattle.io_edge.specs.Edge.{Appends, AppendsPrefix}
-use Rattle.solr_streams.specs.Inputs.{limit, IsReadOut}
+use Rattle.solr_streams.specs.Inputs.{limit, IsReadOut, IsReadWithin}
 use Rattle.solr_streams.specs.Replies.{meaning, reply}
 use Rattle.solr_streams.specs.declared.ending.Ending.{Ending}
 use Rattle.solr_streams.specs.declared.ending.Ending.TheVariants.{Done, Faulty}
@@ -30,10 +30,15 @@ abbrev pub IsReplyBegun : List NameShards → List ℕ → Option (List ℕ) →
 IsReplyBegun names all left old new =
     IsReadOut all left × AppendsPrefix old new (reply names (take limit all))
 
+-- nothing is written yet of the reply to such an input
+abbrev pub IsUnanswered : List ℕ → Option (List ℕ) → Option (List ℕ) → Option (List ℕ) → Type 0
+IsUnanswered all left old new = IsReadWithin all left × (new ≡ old)
+
 -- nothing is written yet, or a first part of the reply
 abbrev pub IsReplyWithin : List NameShards → List ℕ → Option (List ℕ) → Option (List ℕ)
     → Option (List ℕ) → Type 0
-IsReplyWithin names all left old new = (new ≡ old) ⊎ IsReplyBegun names all left old new
+IsReplyWithin names all left old new =
+    IsUnanswered all left old new ⊎ IsReplyBegun names all left old new
 
 -- how a run ends that has written the reply to this outcome: an exception is a fault
 abbrev pub ending_of : Outcome → Ending

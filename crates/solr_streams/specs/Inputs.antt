@@ -12,9 +12,14 @@ HasTaken (Some all) new bytes =
     (length bytes ≤ length all) × (bytes ≡ take (length bytes) all)
     × (new ≡ Some (drop (length bytes) all))
 
--- the input was read to its end, or so far
+-- the input was read to its end, or to the limit
 abbrev pub IsReadOut : List ℕ → Option (List ℕ) → Type 0
 IsReadOut all left = left ≡ Some (drop limit all)
+
+-- no more than so many bytes of the input were taken
+abbrev pub IsReadWithin : List ℕ → Option (List ℕ) → Type 0
+IsReadWithin all left =
+    (bytes : List ℕ) × HasTaken (Some all) left bytes × (length bytes ≤ limit)
 
 -- the bytes are all that the source had left, or the first of them, where it tells, and no more were
 -- taken

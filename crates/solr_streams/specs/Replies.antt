@@ -10,7 +10,8 @@ use Rattle.exchange_rules.specs.Rows.{Layout, part_of}
 use Rattle.expr_plan.specs.ExprTree.{ExprTree}
 use Rattle.json_text.specs.Replies.{body}
 use Rattle.stream_site.specs.Plains.{empty_site, layout_of, writer_of}
-use Rattle.stream_handler.specs.Expressions.{collections, expression_of, list_of}
+use Rattle.expr_check.specs.Reads.{collections_of}
+use Rattle.stream_handler.specs.Expressions.{expression_of, list_over}
 use Rattle.stream_handler.specs.Outcomes.{exception}
 use Rattle.stream_handler.specs.Requests.{plain_course}
 use Rattle.stream_handler.specs.declared.outcome.Outcome.{Outcome}
@@ -30,7 +31,7 @@ empty_cut names (c ∷ collections) =
 
 -- what an expression that was read and checked gives over empty collections, or its fault
 abbrev pub evaluated : List NameShards → Result ExprTree ByteList → Result (List Doc) ByteList
-evaluated names (Ok e) = Ok (list_of e (empty_cut names (collections e)))
+evaluated names (Ok e) = Ok (list_over e (empty_cut names (collections_of e)))
 evaluated names (Err text) = Err text
 
 -- what the bytes of an expression mean over these collections, which are empty: tuples, or the text

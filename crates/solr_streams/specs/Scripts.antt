@@ -69,6 +69,17 @@ abbrev pub IsStoppedAt : List NameShards → ℕ → List ℕ → Option (List �
     → Option (List ℕ) → Type 0
 IsStoppedAt names status all left old new = IsScriptRun names all left (Refusal status) old new
 
+-- the bytes that were taken of such an input hold messages and then something, and all that is to be
+-- written of them is written
+pub record IsScriptRead (names : List NameShards) (all : List ℕ) (left old new : Option (List ℕ))
+    : Type 0 where
+  pub messages : List Message
+  pub after : After
+  pub read : List ℕ
+  pub came : Came (Some all) left read
+  pub reads : Reads names read messages after
+  pub written : Appends old new (script_text names messages after)
+
 -- behind these messages of the bytes this text is written: of all that stands behind them, or, where
 -- they were not read to their end, of the message to which they lead
 abbrev pub IsBehind : List NameShards → List ℕ → List Message → ByteList → Type 0

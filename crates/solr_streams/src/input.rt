@@ -1,7 +1,7 @@
 // The reading of an expression's bytes.
-ghost use Rattle.std.specs.Prelude.{◌≡◌, ◌≤◌, IfOk};
+ghost use Rattle.std.specs.Prelude.{◌≡◌, ◌≤◌, IfOk, IfSome};
 ghost use Rattle.io_edge.specs.Edge.{Rose};
-ghost use Rattle.solr_streams.specs.Inputs.{IsInput};
+ghost use Rattle.solr_streams.specs.Inputs.{IsInput, IsReadWithin};
 ghost use Rattle.solr_streams.specs.declared.input.ReadFault.TheVariants.{Failed, OutOfMemory};
 
 use io_edge::{Source, Taken};
@@ -26,7 +26,9 @@ impl From<AllocError> for ReadFault {
 
 /// Reads the input to its end, or its first 65,537 bytes: one more than an expression may have.
 pub fn read_input<I: Source>(alloc: Global, input: &mut I) -> Result<Vec<u8>, ReadFault>
-    ensures read { IfOk result (λ bytes. IsInput (I.left input.old) (I.left input.new) bytes.items) }
+    ensures read { IfOk result (λ bytes.
+        IsInput (I.left input.old) (I.left input.new) bytes.items) }
+    ensures within { IfSome (I.left input.old) (λ all. IsReadWithin all (I.left input.new)) }
     ensures counts { I.faults input.old ≤ I.faults input.new }
     ensures cause { result ≡ Err Failed → Rose (I.faults input.old) (I.faults input.new) }
 {

@@ -5,7 +5,13 @@ mod ending;
 mod eval;
 mod input;
 mod run;
+#[cfg(test)]
+mod running;
+#[cfg(test)]
+mod samples;
 mod script;
+#[cfg(test)]
+mod script_tests;
 #[cfg(test)]
 mod tests;
 

@@ -1,5 +1,5 @@
 // The top call.
-ghost use Rattle.std.specs.Prelude.{◌≡◌, ◌⊎◌, ◌↔◌, IfSome, IsTrue};
+ghost use Rattle.std.specs.Prelude.{◌≡◌, ◌⊎◌, ◌↔◌, IfSome};
 ghost use Rattle.io_edge.specs.Edge.{Rose};
 ghost use Rattle.command_words.specs.Commands.{command_of};
 ghost use Rattle.solr_streams.specs.Commands.{IsCommand, IsAnswered, IsRefused, IsBegun, IsShort};

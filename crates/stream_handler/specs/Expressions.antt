@@ -1,6 +1,6 @@
 -- What the bytes of an expression are: an expression that is run, or the text of its first fault.
--- And what an expression gives (Solr Reference Guide, "Streaming Expressions"; own).
-use Rattle.std.specs.Prelude.{List, [], ◌∷◌, Option, Some, None, Result, Ok, Err}
+-- And what an expression gives over a cut (Solr Reference Guide, "Streaming Expressions"; own).
+use Rattle.std.specs.Prelude.{List, Option, Some, None, Result, Ok, Err}
 use Rattle.tuple_values.specs.Document.{ByteList, Doc}
 use Rattle.tuple_values.specs.declared.names.NameShards.{NameShards}
 use Rattle.shard_versions.specs.declared.cut.CutPart.{CutPart}
@@ -8,24 +8,24 @@ use Rattle.expr_reader.specs.Tree.{CallTree}
 use Rattle.expr_reader.specs.Reading.{read_of}
 use Rattle.expr_reader.specs.Fault as read
 use Rattle.expr_reader.specs.declared.fault.ExprFault.{ExprFault}
-use Rattle.expr_plan.specs.ExprTree.{ExprTree, SearchParts}
+use Rattle.expr_plan.specs.ExprTree.{ExprTree}
 use Rattle.expr_plan.specs.Fault as plan
-use Rattle.expr_plan.specs.Sources.{search_list, parts_in, fields_in}
+use Rattle.expr_plan.specs.Lists.{list_of}
 use Rattle.expr_plan.specs.Walk.{planned}
 use Rattle.expr_plan.specs.declared.fault.PlanFault.{PlanFault}
+use Rattle.expr_check.specs.Faults as check
+use Rattle.expr_check.specs.declared.fault.CheckFault.{CheckFault}
 use Rattle.source_streams.specs.Cuts.{documents_of}
-use Rattle.stream_handler.specs.Checks.{search_fault, fault_text}
-use Rattle.stream_handler.specs.declared.check.SearchFault.{SearchFault}
 
 -- an expression, unless it has a fault
-abbrev pub checked : ExprTree → Option SearchFault → Result ExprTree ByteList
+abbrev pub checked : ExprTree → Option CheckFault → Result ExprTree ByteList
 checked e None = Ok e
-checked e (Some fault) = Err (fault_text fault)
+checked e (Some fault) = Err (check.fault_text fault)
 
 -- a planned expression and then its checks
 abbrev pub check_told : List NameShards → Result ExprTree PlanFault → Result ExprTree ByteList
 check_told names (Err fault) = Err (plan.fault_text fault)
-check_told names (Ok e) = checked e (search_fault names (parts_in e))
+check_told names (Ok e) = checked e (check.fault_of names e)
 
 -- a call that was read, and then its plan
 abbrev pub plan_told : List NameShards → Result CallTree ExprFault → Result ExprTree ByteList
@@ -36,21 +36,6 @@ plan_told names (Ok c) = check_told names (planned c)
 abbrev pub expression_of : List NameShards → ByteList → Result ExprTree ByteList
 expression_of names bytes = plan_told names (read_of bytes)
 
--- the collections that a search reads
-abbrev pub collections_by : Option SearchParts → List ByteList
-collections_by None = []
-collections_by (Some p) = p.collection ∷ []
-
--- the collections that an expression reads
-abbrev pub collections : ExprTree → List ByteList
-collections e = collections_by (parts_in e)
-
--- the tuples of a search over a cut, or else the one tuple
-abbrev pub list_by : Option SearchParts → Option Doc → List CutPart → List Doc
-list_by (Some p) fields cut = search_list p (documents_of p.collection cut)
-list_by None (Some fields) cut = fields ∷ []
-list_by None None cut = []
-
 -- the tuples that an expression gives over a cut of its collections
-abbrev pub list_of : ExprTree → List CutPart → List Doc
-list_of e cut = list_by (parts_in e) (fields_in e) cut
+abbrev pub list_over : ExprTree → List CutPart → List Doc
+list_over e cut = list_of (λ collection. documents_of collection cut) e

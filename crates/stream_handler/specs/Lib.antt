@@ -1,4 +1,3 @@
-pub mod Checks
 pub mod Expressions
 pub mod Plains
 pub mod Responses

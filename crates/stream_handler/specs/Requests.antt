@@ -19,7 +19,8 @@ use Rattle.json_text.specs.declared.fault.JsonFault.{JsonFault}
 use Rattle.json_text.specs.declared.fault.JsonFault.TheVariants as bad
 use Rattle.json_text.specs.declared.update.Update as body
 use Rattle.expr_plan.specs.ExprTree.{ExprTree}
-use Rattle.stream_handler.specs.Expressions.{expression_of, collections, list_of}
+use Rattle.expr_check.specs.Reads.{collections_of}
+use Rattle.stream_handler.specs.Expressions.{expression_of, list_over}
 use Rattle.topic_book.specs.Fitness.{shards_of}
 use Rattle.stream_handler.specs.Outcomes.{exception}
 use Rattle.stream_handler.specs.Refusals.{refusal}
@@ -65,7 +66,8 @@ update_course l collection commit (Ok update) =
 abbrev pub plain_course : Layout → Result ExprTree ByteList → Course Outcome
 plain_course l (Err text) = ends (exception text)
 plain_course l (Ok e) =
-    and_then (cut_course l.names [] (collections e)) (λ cut. ends (ResultSet (list_of e cut) None))
+    and_then (cut_course l.names [] (collections_of e))
+    (λ cut. ends (ResultSet (list_over e cut) None))
 
 -- the expression of a parameter, which has to be there
 abbrev pub stream_course : Layout → Option ByteList → Course Outcome

@@ -1,26 +1,25 @@
 // Requests, carried out at a site.
 ghost use Rattle.std.specs.Prelude.{◌≡◌, Ok, option_map};
-ghost use Rattle.expr_plan.specs.ExprViews.{expr_tree};
+ghost use Rattle.expr_check.specs.Views.{tree_of};
 ghost use Rattle.stream_handler.specs.Expressions.{expression_of};
 ghost use Rattle.stream_handler.specs.Requests.{Carried, plain_course, stream_course};
 
 use crate::Outcome;
-use crate::plain::{PlainFault, collections, evaluate, read_plain};
-use expr_plan::Expr;
+use crate::plain::{PlainFault, evaluate, read_plain};
+use expr_check::Checked;
 use std::alloc::Global;
 use stream_site::{Turns, take_cut_over};
 use tuple_values::{Memory, Text};
 
 // What an expression gives over a cut of its collections.
-fn run<T: Turns>(site: &mut T, alloc: Global, expr: &Expr) -> Result<Outcome, Memory>
+fn run<T: Turns>(site: &mut T, alloc: Global, checked: &Checked) -> Result<Outcome, Memory>
     ensures course { Carried (T.writer site.old) (T.writer site.new)
-        (plain_course (T.layout site.old) (Ok (expr_tree expr.now))) result }
+        (plain_course (T.layout site.old) (Ok (tree_of checked.now))) result }
     ensures layout { T.layout site.new ≡ T.layout site.old }
 {
-    let names = collections(alloc, expr)?;
-    match take_cut_over(site, alloc, &names) {
+    match take_cut_over(site, alloc, checked.collections()) {
         Ok(cut) => {
-            let docs = evaluate(alloc, expr, &cut)?;
+            let docs = evaluate(alloc, checked, &cut)?;
             Ok(Outcome::ResultSet {
                 docs,
                 exception: None,
@@ -42,7 +41,7 @@ pub fn run_expression<T: Turns>(
     ensures layout { T.layout site.new ≡ T.layout site.old }
 {
     match read_plain(alloc, site.names(), bytes) {
-        Ok(expr) => run(site, alloc, &expr),
+        Ok(checked) => run(site, alloc, &checked),
         Err(PlainFault::Told(text)) => Ok(Outcome::exception(alloc, text)),
         Err(PlainFault::OutOfMemory) => Err(Memory::OutOfMemory),
     }

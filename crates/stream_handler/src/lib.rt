@@ -1,7 +1,6 @@
 //! Requests, carried out at a site and answered.
 #![tactic(auto)]
 
-mod check;
 mod connection;
 mod ending;
 mod exchange;

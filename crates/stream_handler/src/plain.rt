@@ -1,20 +1,22 @@
 // Plain expressions: read, planned, checked and evaluated.
-ghost use Rattle.std.specs.Prelude.{◌≡◌, ◌++◌, IfOk, OnOk, OnErr};
+ghost use Rattle.std.specs.Prelude.{◌≡◌, IfOk};
 ghost use Rattle.expr_reader.specs.Views.{call_tree};
 ghost use Rattle.expr_plan.specs.ExprViews.{expr_tree};
-ghost use Rattle.expr_plan.specs.Sources.{parts_in, search_parts, tuple_fields};
+ghost use Rattle.expr_plan.specs.Lists.{AreKeysKept};
 ghost use Rattle.expr_plan.specs.Walk.{planned};
-ghost use Rattle.stream_handler.specs.Checks.{search_fault};
-ghost use Rattle.stream_handler.specs.Expressions.{expression_of, check_told, checked, collections, list_of, list_by};
-ghost use Rattle.stream_handler.specs.Plains.{IsCleared, IsTold};
+ghost use Rattle.expr_check.specs.Faults.{fault_of};
+ghost use Rattle.expr_check.specs.Views.{tree_of};
+ghost use Rattle.stream_handler.specs.Expressions.{expression_of, check_told, checked, list_over};
+ghost use Rattle.stream_handler.specs.Plains.{IsTold};
 
-use crate::check::{SearchFault, check_search};
+use expr_check::{CheckFault, Checked, check};
 use expr_plan::{Expr, PlanFault, plan};
 use expr_reader::{Call, ExprFault, read_expr};
 use shard_versions::Cut;
-use source_streams::{Part, SearchCursor, TupleOnce};
+use source_streams::Part;
 use std::alloc::Global;
-use tuple_values::{FieldList, Memory, Names, Text, TryCopy, Tuples};
+use stream_engine::{Feeds, drain, open_stream};
+use tuple_values::{Memory, Names, Text, Tuples};
 
 /// Why an expression isn't evaluated.
 #[derive(Debug, Drop)]
@@ -36,29 +38,20 @@ impl From<Memory> for PlainFault {
     }
 }
 
-// Whether an expression has no fault.
-fn check(alloc: Global, names: &Names, expr: &Expr) -> Result<(), PlainFault>
-    ensures { IsCleared (checked (expr_tree expr.now)
-        (search_fault names.now (parts_in (expr_tree expr.now)))) (expr_tree expr.now) result }
+// The expression, unless it has a fault.
+fn checked(alloc: Global, names: &Names, expr: Expr) -> Result<Checked, PlainFault>
+    requires { AreKeysKept (expr_tree expr) }
+    ensures { IsTold (checked (expr_tree expr) (fault_of names.now (expr_tree expr))) result }
 {
-    match check_search(alloc, expr, names) {
-        Ok(()) => Ok(()),
-        Err(SearchFault::OutOfMemory) => Err(PlainFault::OutOfMemory),
+    match check(alloc, expr, names) {
+        Ok(checked) => Ok(checked),
+        Err(CheckFault::OutOfMemory) => Err(PlainFault::OutOfMemory),
         Err(fault) => Err(PlainFault::Told(fault.text(alloc)?)),
     }
 }
 
-// The expression, unless it has a fault.
-fn checked(alloc: Global, names: &Names, expr: Expr) -> Result<Expr, PlainFault>
-    ensures { IsTold (checked (expr_tree expr)
-        (search_fault names.now (parts_in (expr_tree expr)))) result }
-{
-    check(alloc, names, &expr)?;
-    Ok(expr)
-}
-
 // The expression that a call stands for, unless it has a fault.
-fn plan_checked(alloc: Global, names: &Names, call: &Call) -> Result<Expr, PlainFault>
+fn plan_checked(alloc: Global, names: &Names, call: &Call) -> Result<Checked, PlainFault>
     ensures { IsTold (check_told names.now (planned (call_tree call.now))) result }
 {
     match plan(alloc, call) {
@@ -69,7 +62,7 @@ fn plan_checked(alloc: Global, names: &Names, call: &Call) -> Result<Expr, Plain
 }
 
 /// The expression that bytes say, over these collections, or its first fault.
-pub(crate) fn read_plain(alloc: Global, names: &Names, bytes: &[u8]) -> Result<Expr, PlainFault>
+pub(crate) fn read_plain(alloc: Global, names: &Names, bytes: &[u8]) -> Result<Checked, PlainFault>
     ensures { IsTold (expression_of names.now bytes.now) result }
 {
     match read_expr(alloc, bytes) {
@@ -79,54 +72,10 @@ pub(crate) fn read_plain(alloc: Global, names: &Names, bytes: &[u8]) -> Result<E
     }
 }
 
-/// The collections that an expression reads.
-pub(crate) fn collections(alloc: Global, expr: &Expr) -> Result<FieldList, Memory>
-    ensures { IfOk result (λ names. names ≡ collections (expr_tree expr.now)) }
-{
-    let mut names = FieldList::new(alloc);
-    if let Expr::Search { collection, .. } = expr {
-        names.push(collection.copy(alloc)?)?;
-    }
-    Ok(names)
-}
-
-fn drain(alloc: Global, mut cursor: SearchCursor) -> Result<Tuples, Memory>
-    ensures { IfOk result (λ docs. docs ≡ cursor) }
-{
-    let mut docs = Tuples::empty(alloc);
-    while let Some(tuple) = cursor.read()? {
-        docs.push(tuple)?;
-    }
-    Ok(docs)
-}
-
-fn drain_once(alloc: Global, mut once: TupleOnce) -> Result<Tuples, Memory>
-    ensures { IfOk result (λ docs. docs ≡ once) }
-{
-    let mut docs = Tuples::empty(alloc);
-    while let Some(tuple) = once.read()? {
-        docs.push(tuple)?;
-    }
-    Ok(docs)
-}
-
-// The tuples of an expression by its own parts.
-fn tuples_of(alloc: Global, expr: &Expr, cut: &Cut) -> Result<Tuples, Memory>
-    ensures { IfOk result (λ docs.
-        docs ≡ list_by (search_parts expr.now) (tuple_fields expr.now) cut.now) }
-{
-    match expr {
-        Expr::Search { .. } => {
-            drain(alloc, SearchCursor::make(alloc, expr, cut, Part::whole())?)
-        }
-        Expr::Tuple { .. } => drain_once(alloc, TupleOnce::make(alloc, expr)?),
-        _ => Ok(Tuples::empty(alloc)),
-    }
-}
-
 /// The tuples that an expression gives over a cut of its collections.
-pub(crate) fn evaluate(alloc: Global, expr: &Expr, cut: &Cut) -> Result<Tuples, Memory>
-    ensures { IfOk result (λ docs. docs ≡ list_of (expr_tree expr.now) cut.now) }
+pub(crate) fn evaluate(alloc: Global, checked: &Checked, cut: &Cut) -> Result<Tuples, Memory>
+    ensures { IfOk result (λ docs. docs ≡ list_over (tree_of checked.now) cut.now) }
 {
-    tuples_of(alloc, expr, cut)
+    let stream = open_stream(alloc, checked, cut, Feeds::new(alloc), Part::whole())?;
+    drain(alloc, stream)
 }
