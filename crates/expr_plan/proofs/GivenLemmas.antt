@@ -1,7 +1,7 @@
 -- What is left of the parameters once one is taken, and the fields of several.
 use Rattle.std.proofs.Common.{◌≡◌, ℕ, Option, List, [], ◌∷◌, ◌++◌, Bool, true, false, cond, codes}
 use Rattle.std.proofs.Common.{refl, ap, subst, sym, ◌∙◌}
-use Rattle.std.specs.List.{filter_map, cons_option}
+use Rattle.std.specs.List.{cons_option}
 use Rattle.std.specs.Str.{bytes_eq}
 use Rattle.std.proofs.lemmas.List.Elements.{filter_map-append}
 use Rattle.std.proofs.lemmas.Slice.Eq.{bytes_eq-Decides}
@@ -17,7 +17,6 @@ use Rattle.expr_plan.specs.declared.expr.Expr.TheOpen.{Expr-F}
 use Rattle.expr_plan.specs.declared.expr.Expr.TheFolds.{fold-roll-Expr}
 use Rattle.expr_plan.specs.declared.expr.Expr.TheVariants as expr
 use Rattle.expr_plan.specs.declared.param.Given.{Given}
-use Rattle.expr_plan.specs.declared.param.Param.{Param}
 use Rattle.expr_plan.specs.declared.param.Param.TheVariants.{Nothing}
 
 -- a text that is one name isn't another

@@ -1,6 +1,6 @@
 -- What a call stands for keeps the fields of its keys: what reduce and rollup make of each key has
 -- none of their names.
-use Rattle.std.proofs.Common.{◌≡◌, List, [], ◌∷◌, ◌++◌, Bool, true, false, not, ◌||◌, ◌&&◌, cond}
+use Rattle.std.proofs.Common.{◌≡◌, List, [], ◌∷◌, ◌++◌, Bool, true, false, not, ◌||◌, cond}
 use Rattle.std.proofs.Common.{Option, Some, None, option_map, Result, Ok, Err, codes, refl, ap, sym}
 use Rattle.std.proofs.Common.{subst, ◌∙◌, if◌then◌else◌}
 use Rattle.std.specs.List.{AllByRecursion, list_all, list_any, cons_option}
@@ -8,9 +8,9 @@ use Rattle.std.specs.Str.{bytes_eq}
 use Rattle.std.proofs.lemmas.Slice.Eq.{bytes_eq-Decides}
 use Rattle.tuple_values.specs.Document.{ByteList, is_named}
 use Rattle.sort_spec.specs.Reading.{Reading, said, stuck, names_of}
-use Rattle.expr_reader.specs.Tree.{CallTree, call, ArgTree, plain, named, named_call, sub, renamed}
+use Rattle.expr_reader.specs.Tree.{CallTree, ArgTree, plain, named, named_call, sub, renamed}
 use Rattle.expr_reader.specs.Tree.{ArgTrees, no_args, an_arg}
-use Rattle.expr_plan.specs.Arguments.{Walked, nothing_given, with_param, with_named, with_word}
+use Rattle.expr_plan.specs.Arguments.{Walked, with_param, with_named, with_word}
 use Rattle.expr_plan.specs.Arguments.{with_arg, with_args, with_sub, with_read, with_call}
 use Rattle.expr_plan.specs.Fault.{and_then}
 use Rattle.expr_plan.specs.Given.{metric_in, metric_of_param, metrics_in, is_given, param_at, names_in}

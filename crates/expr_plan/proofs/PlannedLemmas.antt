@@ -1,6 +1,6 @@
 -- What a call stands for keeps the fields of its keys, and so do its inputs.
 use Rattle.std.proofs.Common.{◌≡◌, List, [], ◌∷◌, ◌++◌, Bool, true, false, cond, Option, Some, None}
-use Rattle.std.proofs.Common.{Result, Ok, Err, codes, refl, sym, subst}
+use Rattle.std.proofs.Common.{Result, Ok, Err, codes, subst}
 use Rattle.std.specs.List.{AllByRecursion}
 use Rattle.tuple_values.specs.Document.{ByteList, is_named}
 use Rattle.expr_reader.specs.Tree.{CallTree, call, ArgTree, plain, named, named_call, sub, renamed}
@@ -20,7 +20,7 @@ use Rattle.expr_plan.specs.declared.function.Function.{Function}
 use Rattle.expr_plan.specs.declared.function.Function.TheVariants.{Search, Tuple, Select, Having}
 use Rattle.expr_plan.specs.declared.function.Function.TheVariants.{Sort, Top, Unique, Merge}
 use Rattle.expr_plan.specs.declared.function.Function.TheVariants.{Reduce, Rollup}
-use Rattle.expr_plan.proofs.KeptLemmas.{fine, fine_same, and_then-ok, AreGood, all_made, key_free}
+use Rattle.expr_plan.proofs.KeptLemmas.{fine, fine_same, and_then-ok, all_made, key_free}
 use Rattle.expr_plan.proofs.KeptLemmas.{reduce_args, rollup_args, either_false, metrics_free}
 
 -- each of some expressions keeps the fields of its keys

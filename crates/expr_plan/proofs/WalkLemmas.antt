@@ -1,6 +1,6 @@
 -- The parameters of a call's arguments, one argument at a time.
-use Rattle.std.proofs.Common.{◌≡◌, ℕ, ◌+◌, ◌<◌, ◌≤◌, List, [], ◌∷◌, length, get_or, drop, Result}
-use Rattle.std.proofs.Common.{Ok, Err, true, false, cond, refl, ap, sym, ◌∙◌, subst, arith}
+use Rattle.std.proofs.Common.{◌≡◌, ℕ, ◌+◌, ◌<◌, ◌≤◌, List, length, get_or, drop, Result}
+use Rattle.std.proofs.Common.{Ok, true, false, cond, refl, ap, sym, ◌∙◌, subst, arith}
 use Rattle.std.proofs.lemmas.List.{at_drop_more, at_drop_all}
 use Rattle.expr_reader.specs.Tree.{ArgTree, trees_of}
 use Rattle.tuple_values.specs.Document.{ByteList}

@@ -1,7 +1,7 @@
 -- What the arguments of a call give, from the left to the right, or the first fault among them
 -- (own).
-use Rattle.std.specs.Prelude.{ℕ, Bool, true, false, List, [], ◌∷◌, ◌++◌, Option, Some, None}
-use Rattle.std.specs.Prelude.{Result, Ok, Err, option_map, codes, if◌then◌else◌}
+use Rattle.std.specs.Prelude.{Bool, true, false, List, [], ◌∷◌, ◌++◌, Option, Some, None}
+use Rattle.std.specs.Prelude.{Result, Ok, option_map, codes, if◌then◌else◌}
 use Rattle.tuple_values.specs.Document.{ByteList}
 use Rattle.expr_reader.specs.Tree.{CallTree, ArgTree, plain, named, named_call, sub, renamed}
 use Rattle.expr_reader.specs.Tree.{ArgTrees, no_args, an_arg}
@@ -16,7 +16,7 @@ use Rattle.expr_plan.specs.Items.{field_item, renamed_item}
 use Rattle.expr_plan.specs.Shapes.{bad, read_as}
 use Rattle.expr_plan.specs.declared.fault.PlanFault.{PlanFault}
 use Rattle.expr_plan.specs.declared.function.Function.{Function}
-use Rattle.expr_plan.specs.declared.function.Function.TheVariants.{Search, Tuple, Select, Having}
+use Rattle.expr_plan.specs.declared.function.Function.TheVariants.{Select, Having}
 use Rattle.expr_plan.specs.declared.function.Shape.{Shape}
 use Rattle.expr_plan.specs.declared.function.Shape.TheVariants as shape
 use Rattle.expr_plan.specs.declared.param.Given.{Given}

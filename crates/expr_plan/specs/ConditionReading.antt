@@ -1,6 +1,6 @@
 -- What the conditions say that stand among arguments (Solr Reference Guide, "Stream Decorator
 -- Reference", having).
-use Rattle.std.specs.Prelude.{ℕ, ◌==◌, List, [], ◌∷◌, length, Option, Some, None, option_map}
+use Rattle.std.specs.Prelude.{◌==◌, List, [], ◌∷◌, length, Option, Some, None, option_map}
 use Rattle.std.specs.Prelude.{bytes_eq, codes, slice_get, if◌then◌else◌}
 use Rattle.std.specs.Option.{option_and_then}
 use Rattle.tuple_values.specs.Document.{ByteList}
@@ -9,7 +9,7 @@ use Rattle.expr_reader.specs.Tree.{CallTree, call, ArgTree, plain, named, named_
 use Rattle.expr_reader.specs.Tree.{ArgTrees, no_args, an_arg}
 use Rattle.expr_reader.specs.declared.call.Word.{Word}
 use Rattle.expr_plan.specs.ConditionTree.{ConditionTree, compares, all_of, any_of, one_of, not_so}
-use Rattle.expr_plan.specs.ConditionTree.{ConditionTrees, trees_of}
+use Rattle.expr_plan.specs.ConditionTree.{trees_of}
 use Rattle.expr_plan.specs.Groups.{metric_name}
 use Rattle.expr_plan.specs.Items.{metric_of_call}
 use Rattle.expr_plan.specs.Literals.{literal}

@@ -1,5 +1,5 @@
 -- What an expression says, as a tree (Solr Reference Guide, "Streaming Expressions").
-use Rattle.std.specs.Prelude.{ℕ, ◌+◌, List, [], ◌∷◌, Option, Bool}
+use Rattle.std.specs.Prelude.{ℕ, List, [], ◌∷◌, Option, Bool}
 use Rattle.tuple_values.specs.Document.{ByteList, Doc}
 use Rattle.query_syntax.specs.Tree.{ClauseTree}
 use Rattle.sort_spec.specs.declared.term.SortTerm.{SortTerm}

@@ -1,6 +1,6 @@
 -- The functions that are known, and what each takes (Solr Reference Guide, "Stream Source
 -- Reference" and "Stream Decorator Reference"; limits own).
-use Rattle.std.specs.Prelude.{ℕ, Bool, false, ◌==◌, ◌||◌, nat_le, List, [], ◌∷◌, Option, Some, None}
+use Rattle.std.specs.Prelude.{ℕ, Bool, ◌==◌, nat_le, List, [], ◌∷◌, Option, Some, None}
 use Rattle.std.specs.Prelude.{bytes_eq, codes, if◌then◌else◌}
 use Rattle.tuple_values.specs.Document.{ByteList}
 use Rattle.expr_plan.specs.Given.{first_absent}

@@ -1,9 +1,8 @@
 -- What a `group` among the arguments of `reduce` says (Solr Reference Guide, "Stream Decorator
 -- Reference", reduce; the limits of `n` are own).
 use Rattle.std.specs.Prelude.{ℕ, ◌==◌, List, length, Option, Some, None, codes, if◌then◌else◌}
-use Rattle.tuple_values.specs.Document.{ByteList}
 use Rattle.tuple_values.specs.Whole.{whole_of}
-use Rattle.sort_spec.specs.Reading.{Reading, said, stuck, sort_of}
+use Rattle.sort_spec.specs.Reading.{Reading, said, sort_of}
 use Rattle.sort_spec.specs.declared.term.SortTerm.{SortTerm}
 use Rattle.expr_reader.specs.Tree.{CallTree, call, ArgTree}
 use Rattle.expr_reader.specs.declared.call.Word.{Word}

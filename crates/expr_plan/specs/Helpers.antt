@@ -1,18 +1,17 @@
 -- The calls among the arguments of a function that are no inputs (Solr Reference Guide, "Stream
 -- Decorator Reference"; that their names count under their own function alone is own).
-use Rattle.std.specs.Prelude.{Bool, true, false, not, ◌||◌, List, [], ◌∷◌, Option, Some, None}
+use Rattle.std.specs.Prelude.{Bool, false, not, ◌||◌, List, [], ◌∷◌, Option, None}
 use Rattle.std.specs.Prelude.{option_map, bytes_eq, codes}
 use Rattle.std.specs.List.{list_any}
 use Rattle.tuple_values.specs.Document.{ByteList, is_named}
-use Rattle.expr_reader.specs.Tree.{CallTree, call, ArgTree, plain, named, named_call, sub, renamed}
+use Rattle.expr_reader.specs.Tree.{CallTree, ArgTree, plain, named, named_call, sub, renamed}
 use Rattle.expr_reader.specs.Tree.{ArgTrees}
 use Rattle.expr_plan.specs.Given.{is_given}
 use Rattle.expr_plan.specs.GroupReading.{group_of_call}
 use Rattle.expr_plan.specs.Items.{item_of_call, metric_of_call, metric_names}
 use Rattle.expr_plan.specs.Words.{called, arg_list}
 use Rattle.expr_plan.specs.declared.function.Function.{Function}
-use Rattle.expr_plan.specs.declared.function.Function.TheVariants.{Search, Tuple, Select, Having}
-use Rattle.expr_plan.specs.declared.function.Function.TheVariants.{Sort, Top, Unique, Merge}
+use Rattle.expr_plan.specs.declared.function.Function.TheVariants.{Select, Having}
 use Rattle.expr_plan.specs.declared.function.Function.TheVariants.{Reduce, Rollup}
 use Rattle.expr_plan.specs.declared.param.Given.{Given}
 use Rattle.expr_plan.specs.declared.param.Param.{Param}

@@ -1,6 +1,6 @@
 -- What the metrics and items say that stand among arguments (Solr Reference Guide, "Stream
 -- Decorator Reference", select and rollup).
-use Rattle.std.specs.Prelude.{◌==◌, nat_lt, List, [], ◌∷◌, length, take, drop, Bool, ◌&&◌}
+use Rattle.std.specs.Prelude.{◌==◌, nat_lt, List, length, take, drop, Bool, ◌&&◌}
 use Rattle.std.specs.Prelude.{Option, Some, None, option_map, bytes_eq, codes, if◌then◌else◌}
 use Rattle.std.specs.List.{prefix_len, filter_map}
 use Rattle.std.specs.Option.{option_and_then}

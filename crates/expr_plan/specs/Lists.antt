@@ -1,6 +1,6 @@
 -- What an expression gives over the current documents of its collections, and when the kernels that
 -- go over an input once give it (Solr Reference Guide, "Streaming Expressions").
-use Rattle.std.specs.Prelude.{◌≡◌, List, [], ◌∷◌, Bool, true, false, not}
+use Rattle.std.specs.Prelude.{◌≡◌, List, [], ◌∷◌, true, false, not}
 use Rattle.std.specs.List.{AllByRecursion, list_all}
 use Rattle.std.specs.Prelude.{codes}
 use Rattle.tuple_values.specs.Document.{ByteList, Doc, is_named}

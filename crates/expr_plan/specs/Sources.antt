@@ -1,6 +1,6 @@
 -- What the sources give, over lists of documents (Solr Reference Guide, "Stream Source Reference";
 -- that no `rows` gives all documents is own).
-use Rattle.std.specs.Prelude.{ℕ, List, [], ◌∷◌, ◌++◌, Bool, false, Option, Some, None, map, filter}
+use Rattle.std.specs.Prelude.{ℕ, List, [], ◌∷◌, ◌++◌, false, Option, Some, None, map, filter}
 use Rattle.std.specs.Prelude.{take, codes}
 use Rattle.tuple_values.specs.Document.{ByteList, Doc, is_named}
 use Rattle.query_syntax.specs.Matching.{matches}

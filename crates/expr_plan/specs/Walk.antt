@@ -1,6 +1,6 @@
 -- What a call stands for, or its first fault: an unknown name, another number of inputs, the
 -- arguments from the left to the right, what is missing, and then the faults of the inputs (own).
-use Rattle.std.specs.Prelude.{ℕ, ◌+◌, Bool, true, false, List, [], ◌∷◌, ◌++◌, Option, Some, None}
+use Rattle.std.specs.Prelude.{ℕ, ◌+◌, List, [], ◌∷◌, ◌++◌, Option, Some, None}
 use Rattle.std.specs.Prelude.{Result, Ok, Err, codes, if◌then◌else◌}
 use Rattle.tuple_values.specs.Document.{ByteList, Doc, put}
 use Rattle.tuple_values.specs.Views.{datum_of}

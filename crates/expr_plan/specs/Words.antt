@@ -1,6 +1,6 @@
 -- The words among the arguments of a call (own).
 use Rattle.std.specs.Prelude.{ℕ, List, [], ◌∷◌, length, Bool, ◌&&◌, nat_lt, Option, Some, None}
-use Rattle.std.specs.Prelude.{bytes_eq, codes, slice_get, if◌then◌else◌}
+use Rattle.std.specs.Prelude.{bytes_eq, slice_get, if◌then◌else◌}
 use Rattle.std.specs.List.{list_all, filter_map}
 use Rattle.std.specs.Option.{option_or}
 use Rattle.tuple_values.specs.Document.{ByteList}

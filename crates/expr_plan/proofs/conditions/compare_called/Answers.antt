@@ -1,4 +1,4 @@
-use Rattle.std.proofs.Common.{◌≡◌, ◌<◌, length, slice_get, Some, arith}
+use Rattle.std.proofs.Common.{◌≡◌, length, slice_get, Some, arith}
 use Rattle.expr_reader.specs.Views.{arg_tree}
 use Rattle.expr_plan.proofs.WordsLemmas.{slice_get-at}
 use Rattle.expr_plan.proofs.conditions.compare_called.Goals as goal

@@ -1,4 +1,4 @@
-use Rattle.std.proofs.Common.{◌≡◌, ◌<◌, ◌+◌, ◌++◌, length, drop, ap, ◌∙◌, arith}
+use Rattle.std.proofs.Common.{◌<◌, ◌+◌, ◌++◌, length, drop, ap, ◌∙◌, arith}
 use Rattle.expr_reader.specs.Views.{arg_tree}
 use Rattle.expr_plan.specs.Items.{metric_names}
 use Rattle.expr_plan.proofs.WordsLemmas.{metric_named}

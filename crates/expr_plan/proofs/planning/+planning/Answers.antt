@@ -1,13 +1,12 @@
-use Rattle.std.proofs.Common.{◌≡◌, ◌+◌, ◌<◌, [], ◌++◌, length, drop, map, option_map, ap, sym, ◌∙◌}
+use Rattle.std.proofs.Common.{◌≡◌, ◌+◌, ◌<◌, [], length, drop, map, option_map, ap, sym, ◌∙◌}
 use Rattle.std.proofs.Common.{Ok, Some, arith}
 use Rattle.std.specs.List.{cons_option}
 use Rattle.std.proofs.lemmas.Result.{err_from_is_err_and}
 use Rattle.expr_reader.specs.Tree.{trees_of}
 use Rattle.expr_reader.specs.Views.{arg_tree, call_tree}
 use Rattle.expr_plan.specs.ExprViews.{expr_tree}
-use Rattle.expr_plan.specs.Fault.{IsFaultOf}
 use Rattle.expr_plan.specs.Functions.{function_of}
-use Rattle.expr_plan.specs.Walk.{planned, inputs_planned}
+use Rattle.expr_plan.specs.Walk.{inputs_planned}
 use Rattle.expr_plan.proofs.InputLemmas.{behind, exprs-push, input_read, input_refused}
 use Rattle.expr_plan.proofs.PlannedLemmas.{planned_kept}
 use Rattle.expr_plan.proofs.planning.+planning.Goals as goal

@@ -1,4 +1,4 @@
-use Rattle.std.proofs.Common.{◌≡◌, ◌<◌, length, arith}
+use Rattle.std.proofs.Common.{◌<◌, length, arith}
 use Rattle.expr_reader.specs.Views.{arg_tree}
 use Rattle.expr_plan.proofs.WalkLemmas.{found_more}
 use Rattle.expr_plan.proofs.walk.inputs_found.Goals as goal

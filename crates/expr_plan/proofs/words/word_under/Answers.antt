@@ -1,4 +1,4 @@
-use Rattle.std.proofs.Common.{◌≡◌, ◌<◌, length, sym, ◌∙◌, refl, arith}
+use Rattle.std.proofs.Common.{◌<◌, length, sym, ◌∙◌, refl, arith}
 use Rattle.expr_reader.specs.Views.{arg_tree}
 use Rattle.expr_plan.proofs.WordsLemmas.{word_under-drop}
 use Rattle.expr_plan.proofs.words.word_under.Goals as goal
