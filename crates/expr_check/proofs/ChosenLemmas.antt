@@ -4,7 +4,7 @@ use Rattle.std.proofs.Common.{None}
 use Rattle.std.proofs.Common.{fold, if◌then◌else◌, refl, sym, ◌∙◌, ap}
 use Rattle.std.specs.Prelude.{bytes_eq, option_map}
 use Rattle.std.specs.List.{filter_map, cons_option}
-use Rattle.std.specs.Option.{option_cmp}
+use Rattle.std.specs.Option.{option_cmp, option_or}
 use Rattle.std.specs.Ordering.{is_eq}
 use Rattle.tuple_values.specs.Document.{ByteList, Datum, text, Doc, value_at, put, over}
 use Rattle.tuple_values.specs.Order.{datum_cmp}
@@ -15,7 +15,7 @@ use Rattle.expr_plan.specs.Rows.{chosen, with_value, with_text, joined_texts, te
 use Rattle.expr_plan.specs.Rows.{selected}
 use Rattle.expr_plan.specs.declared.item.Item.{Item}
 use Rattle.expr_plan.specs.declared.item.Item.TheVariants.{Field, Replace, Concat}
-use Rattle.expr_check.specs.Orders.{touches, is_untouched, is_touched_once, name_in, or_name}
+use Rattle.expr_check.specs.Orders.{touches, is_untouched, is_touched_once, name_in}
 use Rattle.expr_check.specs.Orders.{new_name}
 use Rattle.expr_check.specs.Orders.{kept_term, kept_terms}
 use Rattle.expr_check.proofs.NeedLemmas.{and_first, and_second, same_bytes, itself_bytes}
@@ -123,7 +123,7 @@ new_name-touched field name (item ∷ items) e n =
     go (new_name-touched field name items (and_second (not (touches name item)) _ e))
     (name_in field item) refl n where
       go : (new_name field items ≡ Some name → ⊥) → (o : Option ByteList) → name_in field item ≡ o
-          → or_name o (new_name field items) ≡ Some name → ⊥
+          → option_or o (new_name field items) ≡ Some name → ⊥
       go later None i m = later m
       go later (Some to) i m =
           let t = touches_in field name item (i ∙ m) in
@@ -159,7 +159,7 @@ split_items field name (item ∷ items) n e =
     go : (new_name field items ≡ Some name → is_touched_once name items ≡ true
         → IsSplit field name items)
         → (o : Option ByteList) → name_in field item ≡ o → (b : Bool) → touches name item ≡ b
-        → or_name o (new_name field items) ≡ Some name
+        → option_or o (new_name field items) ≡ Some name
         → (if b then is_untouched name items else is_touched_once name items) ≡ true
         → IsSplit field name (item ∷ items)
     go later (Some to) i true t m e = record {

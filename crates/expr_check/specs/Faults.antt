@@ -85,7 +85,8 @@ abbrev pub merge_fault : List SortTerm → List Order → Option CheckFault
 merge_fault on [] = None
 merge_fault on (order ∷ orders) = option_or (sort_fault on order) (merge_fault on orders)
 
--- the first fault of an expression over collections of these names
+-- the first fault of an expression over collections of these names; of functions that no call stands
+-- for yet none is told
 abbrev mutual
   pub fault_of : List NameShards → ExprTree → Option CheckFault
   fault_of names (search p) = search_fault names p.collection p.sort p.fl
@@ -118,7 +119,8 @@ fault_text (NotSorted function needed has) =
 fault_text OutOfMemory = codes "out of memory"
 
 -- each input has the order that its function needs, and the fields of a search's sort are in `fl`,
--- which are all faults but that of a collection
+-- which are all faults but that of a collection; nothing is asked of functions that no call stands for
+-- yet
 abbrev mutual
   pub are_met : ExprTree → Bool
   are_met (search p) = list_all (λ term. is_named term.field p.fl) p.sort

@@ -2,6 +2,7 @@
 -- Reference": each function's order follows from those of its inputs).
 use Rattle.std.specs.Prelude.{ℕ, ◌≤◌, List, [], ◌∷◌, length, take, Option, Some, None, Bool}
 use Rattle.std.specs.Prelude.{true, false, not, ◌&&◌, bytes_eq, if◌then◌else◌}
+use Rattle.std.specs.Option.{option_or}
 use Rattle.tuple_values.specs.Document.{ByteList, Doc}
 use Rattle.sort_spec.specs.Sorting.{IsAscending}
 use Rattle.sort_spec.specs.Terms.{less}
@@ -42,15 +43,10 @@ name_in field (Field other to) = if bytes_eq other field then Some to else None
 name_in field (Replace other old new) = None
 name_in field (Concat fields into delim) = None
 
--- or else another one
-abbrev pub or_name : Option ByteList → Option ByteList → Option ByteList
-or_name None other = other
-or_name (Some name) other = Some name
-
 -- the new name of the field by the first item that chooses it
 abbrev pub new_name : ByteList → List Item → Option ByteList
 new_name field [] = None
-new_name field (item ∷ items) = or_name (name_in field item) (new_name field items)
+new_name field (item ∷ items) = option_or (name_in field item) (new_name field items)
 
 -- a term under its new name before others, where no other item gives a value to that name
 abbrev pub kept_term : List Item → SortTerm → Option ByteList → List SortTerm → List SortTerm

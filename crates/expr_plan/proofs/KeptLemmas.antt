@@ -16,7 +16,7 @@ use Rattle.expr_plan.specs.Fault.{and_then}
 use Rattle.expr_plan.specs.Given.{metric_in, metric_of_param, metrics_in, is_given, param_at, names_in}
 use Rattle.expr_plan.specs.GroupReading.{group_of_call}
 use Rattle.expr_plan.specs.Groups.{metric_name}
-use Rattle.expr_plan.specs.Helpers.{is_helper, is_full, touches}
+use Rattle.expr_plan.specs.Helpers.{is_helper, is_full, names_any}
 use Rattle.expr_plan.specs.Items.{metric_of_call, metric_of_arg, metric_names}
 use Rattle.expr_plan.specs.Shapes.{bad, names_param}
 use Rattle.expr_plan.specs.Words.{arg_list}
@@ -48,7 +48,7 @@ and_then-ok (Err f) next y e = absurd (cc)
 -- a parameter names none of the made fields, and a metric is one of them
 abbrev pub IsGood : List ByteList → Given → Type 0
 IsGood made g =
-    (touches made g.param ≡ false)
+    (names_any made g.param ≡ false)
     × ((m : Metric) → metric_in g ≡ Some m → is_named (metric_name m) made ≡ true)
 
 -- each parameter is so
@@ -68,7 +68,7 @@ same_good : (made : List ByteList) (w more : Walked) → fine w ≡ Ok more → 
 same_good made w more e all = subst (AreGood made) (fine_same w more e) all
 
 -- a parameter that is no metric needs to name no made field alone
-other_good : (made : List ByteList) (name : ByteList) (p : Param) → touches made p ≡ false
+other_good : (made : List ByteList) (name : ByteList) (p : Param) → names_any made p ≡ false
     → metric_of_param p ≡ None → IsGood made (record { name = name; param = p })
 other_good made name p free none = (free, λ m e. go (bytes_eq name (codes "metric")) m e)
   where
@@ -83,9 +83,9 @@ named_good : (f : Function) (made : List ByteList) (w more : Walked) (key : Byte
     → and_then (names_param f key reading) (with_named f made w key) ≡ Ok more
     → AreGood made w → AreGood made more
 named_good f made w more key (stuck at) e all = absurd (cc)
-named_good f made w more key (said names) e all = go (touches made (param.Names names)) refl e
+named_good f made w more key (said names) e all = go (names_any made (param.Names names)) refl e
   where
-    go : (b : Bool) → touches made (param.Names names) ≡ b
+    go : (b : Bool) → names_any made (param.Names names) ≡ b
         → cond b (bad f key) (fine (with_param w key (param.Names names))) ≡ Ok more
         → AreGood made more
     go true is e = absurd (cc)
@@ -260,12 +260,12 @@ all_made (an_arg a args) = (
 
 -- the parameter of a name, too, names none of the made fields
 param_free : (made : List ByteList) (key : ByteList) (given : List Given)
-    → AllByRecursion (IsGood made) given → touches made (param_at key given) ≡ false
+    → AllByRecursion (IsGood made) given → names_any made (param_at key given) ≡ false
 param_free made key [] all = refl
 param_free made key (g ∷ given) all = go (bytes_eq g.name key) (param_free made key given all.1)
   where
-    go : (b : Bool) → touches made (param_at key given) ≡ false
-        → touches made (cond b g.param (param_at key given)) ≡ false
+    go : (b : Bool) → names_any made (param_at key given) ≡ false
+        → names_any made (cond b g.param (param_at key given)) ≡ false
     go true later = all.0.0
     go false later = later
 
@@ -275,7 +275,7 @@ none_named [] = refl
 none_named (name ∷ made) = none_named made
 
 -- nor in the names of a parameter that names none of them
-names_free : (made : List ByteList) (p : Param) → touches made p ≡ false
+names_free : (made : List ByteList) (p : Param) → names_any made p ≡ false
     → list_any (λ name. is_named name (names_in p)) made ≡ false
 names_free made (param.Names names) e = e
 names_free made _ e = none_named made

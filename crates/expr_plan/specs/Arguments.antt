@@ -11,7 +11,7 @@ use Rattle.expr_plan.specs.ConditionViews.{condition_tree}
 use Rattle.expr_plan.specs.Fault.{and_then}
 use Rattle.expr_plan.specs.Functions.{shape_of, next_operand}
 use Rattle.expr_plan.specs.Given.{is_given}
-use Rattle.expr_plan.specs.Helpers.{is_helper, helper_name, helper_param, is_full, touches}
+use Rattle.expr_plan.specs.Helpers.{is_helper, helper_name, helper_param, is_full, names_any}
 use Rattle.expr_plan.specs.Items.{field_item, renamed_item}
 use Rattle.expr_plan.specs.Shapes.{bad, read_as}
 use Rattle.expr_plan.specs.declared.fault.PlanFault.{PlanFault}
@@ -59,7 +59,7 @@ with_plain f w text = with_operand f w text (next_operand f w.given)
 -- a parameter that was read under a key, unless it names a field that the function makes
 abbrev pub with_named : Function → List ByteList → Walked → ByteList → Param
     → Result Walked PlanFault
-with_named f made w key p = if touches made p then bad f key else Ok (with_param w key p)
+with_named f made w key p = if names_any made p then bad f key else Ok (with_param w key p)
 
 -- a word under a key: one of the function's, which isn't given before
 abbrev pub with_word : Function → List ByteList → Walked → ByteList → ByteList → Bool

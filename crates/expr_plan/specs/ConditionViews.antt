@@ -1,4 +1,4 @@
--- The trees that the program's conditions stand for.
+-- The trees that the program's conditions stand for (own).
 use Rattle.std.specs.Prelude.{List, map}
 use Rattle.tuple_values.specs.Views.{datum_of}
 use Rattle.expr_plan.specs.ConditionTree.{ConditionTree, compares, all_of, any_of, one_of, not_so}

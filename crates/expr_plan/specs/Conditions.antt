@@ -52,10 +52,12 @@ abbrev mutual
   holds (one_of left right) doc = if holds left doc then not (holds right doc) else holds right doc
   holds (not_so condition) doc = not (holds condition doc)
 
+  -- each of several
   pub all_hold : ConditionTrees → Doc → Bool
   all_hold no_conditions doc = true
   all_hold (a_condition c conditions) doc = holds c doc && all_hold conditions doc
 
+  -- one of several at least
   pub any_holds : ConditionTrees → Doc → Bool
   any_holds no_conditions doc = false
   any_holds (a_condition c conditions) doc = holds c doc || any_holds conditions doc

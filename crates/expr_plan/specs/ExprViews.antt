@@ -1,4 +1,4 @@
--- The trees that the program's expressions stand for.
+-- The trees that the program's expressions stand for (own).
 use Rattle.expr_plan.specs.ConditionViews.{condition_tree}
 use Rattle.expr_plan.specs.ExprTree.{ExprTree, search, tuple, select, having, sort, top, unique, merge}
 use Rattle.expr_plan.specs.ExprTree.{reduce, rollup, inner_join, left_outer_join, intersect}

@@ -10,7 +10,7 @@ use Rattle.expr_plan.specs.Literals.{within}
 use Rattle.expr_plan.specs.Words.{arg_list, word_under}
 use Rattle.expr_plan.specs.declared.item.GroupOp.{GroupOp}
 
--- the greatest number of tuples that may be asked for
+-- the greatest number of tuples that `top` and `group` may be asked for
 abbrev pub count_limit : ℕ
 count_limit = 1000000
 

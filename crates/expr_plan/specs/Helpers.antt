@@ -79,6 +79,6 @@ made_names Rollup args = metric_names (arg_list args)
 made_names _ args = []
 
 -- whether a parameter names one of the fields
-abbrev pub touches : List ByteList → Param → Bool
-touches made (param.Names names) = list_any (λ name. is_named name names) made
-touches made _ = false
+abbrev pub names_any : List ByteList → Param → Bool
+names_any made (param.Names names) = list_any (λ name. is_named name names) made
+names_any made _ = false

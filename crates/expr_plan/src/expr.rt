@@ -92,8 +92,8 @@ pub enum Expr {
         workers: u16,
         sort: SortSpec,
     },
-    /// The documents of a collection that came since the checkpoint of the topic `id`, which is kept
-    /// in the collection `checkpoints`. `q_text` is the text of `q`.
+    /// The documents of a collection that came since the checkpoint of the topic `id`, which is
+    /// kept in the collection `checkpoints`. `q_text` is the text of `q`.
     Topic {
         checkpoints: Text,
         collection: Text,

@@ -16,7 +16,8 @@ pub enum PlanFault {
     /// The function needs this operand, helper or key, and doesn't have it.
     #[error("MissingParam")]
     MissingParam { function: Text, name: Text },
-    /// The function has no such parameter, or has it already, or it can't be read.
+    /// The function has no such parameter, or has it already, or takes no more, or it can't be read,
+    /// or it names a field that the function makes.
     #[error("BadParam")]
     BadParam { function: Text, name: Text },
     /// The function takes another number of inputs.
@@ -78,7 +79,8 @@ fn one_word(alloc: Global, what: &str, name: &Text) -> Result<Text, Memory>
 }
 
 fn two_words(alloc: Global, what: &str, function: &Text, name: &Text) -> Result<Text, Memory>
-    ensures { IfOk result (λ text. text ≡ what.now ++ codes " " ++ function.now ++ codes " " ++ name.now) }
+    ensures { IfOk result (λ text. text
+        ≡ what.now ++ codes " " ++ function.now ++ codes " " ++ name.now) }
 {
     let function = function.as_str();
     let name = name.as_str();

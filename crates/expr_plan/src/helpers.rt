@@ -4,7 +4,7 @@ ghost use Rattle.std.specs.List.{list_any};
 ghost use Rattle.tuple_values.specs.Document.{is_named};
 ghost use Rattle.expr_reader.specs.Tree.{trees_of};
 ghost use Rattle.expr_reader.specs.Views.{call_tree, arg_tree};
-ghost use Rattle.expr_plan.specs.Helpers.{is_metric_word, is_condition_word, is_helper_word, is_helper, is_input, helper_name, helper_param, is_full, made_names, touches};
+ghost use Rattle.expr_plan.specs.Helpers.{is_metric_word, is_condition_word, is_helper_word, is_helper, is_input, helper_name, helper_param, is_full, made_names, names_any};
 
 use crate::function::Function;
 use crate::groups::group_of;
@@ -136,8 +136,8 @@ fn any_named(made: &[Text], names: &FieldList) -> bool
 }
 
 /// Whether a parameter names one of the fields.
-pub(crate) fn touches(made: &FieldList, param: &Param) -> bool
-    ensures { result ≡ touches made.now param.now }
+pub(crate) fn names_any(made: &FieldList, param: &Param) -> bool
+    ensures { result ≡ names_any made.now param.now }
 {
     match param {
         Param::Names(names) => any_named(made.as_slice(), names),

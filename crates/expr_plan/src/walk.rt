@@ -11,7 +11,7 @@ ghost use Rattle.expr_plan.specs.Walk.{inputs_found};
 use crate::PlanFault;
 use crate::conditions::condition_of;
 use crate::function::{Function, Shape};
-use crate::helpers::{helper_name, helper_param, is_full, is_helper, is_input, touches};
+use crate::helpers::{helper_name, helper_param, is_full, is_helper, is_input, names_any};
 use crate::items::{field_item, renamed_item};
 use crate::param::{Param, Params};
 use crate::reading::{bad, read_as};
@@ -98,7 +98,7 @@ fn add_word(
     match function.shape_of(key.as_str()) {
         Some(shape) if !params.has(key.as_str()) => {
             let param = read_as(alloc, shape, function, key.as_str(), word)?;
-            if touches(made, &param) {
+            if names_any(made, &param) {
                 return Err(bad(alloc, function, key.as_str())?);
             }
             params.push(key.copy(alloc)?, param)?;

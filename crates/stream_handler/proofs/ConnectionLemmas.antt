@@ -1,6 +1,6 @@
 -- A connection, message by message to its end.
 use Rattle.io_edge.specs.Edge.{Appends}
-use Rattle.std.proofs.Common.{◌≡◌, ◌≢◌, ℕ, ◌+◌, ◌<◌, ◌≤◌, length-append, Bool, true, false, List, [], ◌∷◌, ◌++◌, length, refl, sym, ap, subst, ◌∙◌, arith, append-nil, inl, inr}
+use Rattle.std.proofs.Common.{◌≡◌, ◌≢◌, ℕ, ◌<◌, ◌≤◌, length-append, Bool, true, false, List, [], ◌∷◌, ◌++◌, length, refl, sym, ap, subst, ◌∙◌, arith, append-nil, inl, inr}
 use Rattle.std.proofs.lemmas.List.{map-append}
 use Rattle.shard_versions.specs.declared.cut.CutMark.{CutMark}
 use Rattle.shard_versions.specs.declared.cut.OwnMark.{OwnMark}
@@ -9,14 +9,13 @@ use Rattle.exchange_rules.specs.Following.{Writer, cleared}
 use Rattle.exchange_rules.specs.Rows.{Layout}
 use Rattle.exchange_rules.proofs.GrowthLemmas.{grows_same}
 use Rattle.stream_handler.specs.Exchanges.{Answer, exchanges_of, replies_of}
-use Rattle.stream_handler.specs.Passing.{front_text}
 use Rattle.stream_handler.specs.Sessions.{Wire, Came, AreOpen, IsAnsweredInPart, IsBounded, IsUnanswered, IsWithin, EndsBy, Exchanged, IsOneServed, IsOver, IsServed, IsSession, most_requests, nothing, record_of}
 use Rattle.stream_handler.specs.declared.ending.End.{End}
 use Rattle.stream_handler.specs.declared.ending.End.TheVariants as end
 use Rattle.stream_handler.specs.declared.exchange.Exchange.{Exchange}
 use Rattle.stream_handler.proofs.PassLemmas.{passes_none, untold}
 use Rattle.stream_handler.proofs.ServeLemmas.{over_join, served_join}
-use Rattle.stream_handler.proofs.WireLemmas.{appends_begin, appends_none, came_none, counts_same}
+use Rattle.stream_handler.proofs.WireLemmas.{appends_none, came_none, counts_same}
 
 -- nothing was served yet
 pub served_none : (l : Layout) (wire : Wire) (w : Writer) → record_of w ≡ nothing

@@ -7,9 +7,9 @@ use Rattle.exchange_rules.specs.Rows.{Layout}
 use Rattle.form_request.specs.declared.request.Request.{Request}
 use Rattle.stream_handler.specs.Exchanges.{Answer, reply_to}
 use Rattle.stream_handler.specs.Outcomes.{reply_of}
-use Rattle.stream_handler.specs.Passing.{front_text, said}
+use Rattle.stream_handler.specs.Passing.{said}
 use Rattle.stream_handler.specs.Serving.{IsCarriedOut, IsLeftOff, IsReplied, IsWritten, IsWrittenInPart, sunk}
-use Rattle.stream_handler.specs.Sessions.{Wire, wire, Came, Counts, IsAnsweredInPart, IsOneEnd, IsOneServed, IsOver, IsUnanswered, Passed, WireEnds, most_requests, nothing, record_of}
+use Rattle.stream_handler.specs.Sessions.{Wire, wire, Counts, IsAnsweredInPart, IsOneEnd, IsOneServed, IsOver, IsUnanswered, Passed, WireEnds, most_requests, nothing, record_of}
 use Rattle.stream_handler.specs.Waiting.{IsHalted, IsWhole}
 use Rattle.stream_handler.specs.declared.ending.End.{End}
 use Rattle.stream_handler.specs.declared.ending.End.TheVariants as end
@@ -18,7 +18,7 @@ use Rattle.stream_handler.specs.declared.ending.OneEnd.TheVariants.{Served, Last
 use Rattle.stream_handler.specs.declared.exchange.Exchange.{Exchange}
 use Rattle.stream_handler.specs.declared.outcome.Outcome.{Outcome}
 use Rattle.stream_handler.proofs.ServeLemmas.{exchanged_none, exchanged_one}
-use Rattle.stream_handler.proofs.WireLemmas.{appends_join, appends_part, appends_still, part_longer, rose_since}
+use Rattle.stream_handler.proofs.WireLemmas.{appends_join, appends_still, rose_since}
 
 -- a list with something at its end is not empty
 not_empty : (before : List Answer) (a : Answer) → [] ≡ before ++ a ∷ [] → ⊥

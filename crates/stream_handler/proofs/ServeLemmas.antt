@@ -3,7 +3,7 @@ use Rattle.std.proofs.Common.{◌≡◌, ◌⊎◌, ℕ, ◌+◌, ◌≢◌, ◌
 use Rattle.std.proofs.lemmas.Grind.{flat_map-append}
 use Rattle.std.proofs.lemmas.List.{map-append}
 use Rattle.tuple_values.specs.declared.names.NameShards.{NameShards}
-use Rattle.io_edge.specs.Edge.{Appends, AppendsPrefix}
+use Rattle.io_edge.specs.Edge.{Appends}
 use Rattle.shard_versions.specs.declared.cut.CutMark.{CutMark}
 use Rattle.shard_versions.specs.declared.cut.Record.{Record}
 use Rattle.exchange_rules.specs.Acts.{looks_at, marks_of}
@@ -17,7 +17,7 @@ use Rattle.exchange_rules.proofs.ReachLemmas.{count_by-append}
 use Rattle.form_request.specs.declared.reading.After.{After}
 use Rattle.form_request.specs.declared.reading.Message.{Message}
 use Rattle.stream_handler.specs.Exchanges.{Answer, AreSound, IsSound, looks_of, messages_of, replies_of, reply_to}
-use Rattle.stream_handler.specs.Passing.{Passes, front_text, said}
+use Rattle.stream_handler.specs.Passing.{Passes, said}
 use Rattle.stream_handler.specs.Requests.{request_course}
 use Rattle.stream_handler.specs.Serving.{IsCarriedOut}
 use Rattle.stream_handler.specs.Sessions.{Wire, Came, Counts, Exchanged, IsBegun, IsCutOff, IsLost, IsStuck, IsOver, IsServed, IsUnfinished, Passed, Stands, WireEnds}
@@ -28,9 +28,9 @@ use Rattle.stream_handler.specs.declared.outcome.Outcome.{Outcome}
 use Rattle.stream_handler.proofs.PassLemmas.{passes_join}
 use Rattle.form_request.specs.Readers.{HeldReads}
 use Rattle.form_request.specs.Streams.{fed}
-use Rattle.form_request.specs.declared.reading.After.TheVariants.{Refusal, Rest}
+use Rattle.form_request.specs.declared.reading.After.TheVariants.{Rest}
 use Rattle.stream_handler.specs.Refusals.{refusal_reply}
-use Rattle.stream_handler.proofs.WireLemmas.{appends_join, appends_part, came_join, counts_join, rose_since}
+use Rattle.stream_handler.proofs.WireLemmas.{appends_join, came_join, counts_join, rose_since}
 
 -- exchanges stay sound over all that is seen later
 pub sound_still : (l : Layout) (me : ℕ) (s t : List Log) (had end : List ℕ) (xs : List Answer) → Grows s t

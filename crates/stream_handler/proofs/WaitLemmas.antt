@@ -2,23 +2,23 @@
 use Rattle.std.proofs.Common.{◌≡◌, ℕ, ◌≤◌, Bool, true, false, List, [], ◌++◌, Option, Some, None, refl, sym, ap, subst, arith, append-nil, inl, ◌∙◌}
 use Rattle.tuple_values.specs.Document.{ByteList}
 use Rattle.tuple_values.specs.declared.names.NameShards.{NameShards}
-use Rattle.io_edge.specs.Edge.{Appends, AppendsPrefix}
+use Rattle.io_edge.specs.Edge.{Appends}
 use Rattle.form_request.specs.Readers.{HeldReads, message_after, told_after}
 use Rattle.form_request.specs.Streams.{Held, fed, held_count}
 use Rattle.form_request.specs.declared.plan.Stage.{Stage}
 use Rattle.form_request.specs.declared.plan.Stage.TheVariants as stage
-use Rattle.form_request.specs.declared.reading.After.TheVariants.{Refusal, Rest}
+use Rattle.form_request.specs.declared.reading.After.TheVariants.{Rest}
 use Rattle.form_request.specs.declared.request.Request.{Request}
 use Rattle.form_request.specs.declared.request.Step100.{Step100}
 use Rattle.form_request.specs.declared.request.Step100.TheVariants as step
 use Rattle.stream_handler.specs.Passing.{IsToldOnce, Passes, front_text, said}
 use Rattle.stream_handler.specs.Refusals.{refusal_reply}
-use Rattle.stream_handler.specs.Sessions.{Wire, wire, Came, Counts, IsLost, IsUnfinished, Passed, Stands, WireEnds}
+use Rattle.stream_handler.specs.Sessions.{Wire, wire, Came, Counts, IsLost, IsUnfinished, Passed, WireEnds}
 use Rattle.stream_handler.specs.Waiting.{Continues, IsHalted, IsWaiting, IsWhole, Reads, ReadsCount, Refuses, TurnsTo, WritesCount, turn_of}
 use Rattle.stream_handler.specs.declared.ending.End.{End}
 use Rattle.stream_handler.specs.declared.ending.End.TheVariants as end
 use Rattle.stream_handler.proofs.PassLemmas.{IsTurned, passes_end, passes_fed, passes_join, passes_none, untold}
-use Rattle.stream_handler.proofs.WireLemmas.{appends_begin, appends_join, appends_none, appends_part, appends_still, came_join, came_none, came_still, counts_join, counts_same, rose_since}
+use Rattle.stream_handler.proofs.WireLemmas.{appends_join, appends_none, appends_still, came_join, came_none, came_still, counts_join, counts_same, rose_since}
 
 -- at the start nothing is read and nothing said
 pub waits_none : (names : List NameShards) (w : Wire) → IsWaiting names w w false

@@ -13,7 +13,7 @@ use Rattle.form_request.specs.Readers.{HeldReads}
 use Rattle.form_request.specs.Streams.{Held, fed}
 use Rattle.form_request.specs.declared.plan.Stage.TheVariants as stage
 use Rattle.form_request.specs.declared.reading.After.{After}
-use Rattle.form_request.specs.declared.reading.After.TheVariants.{Refusal, Rest}
+use Rattle.form_request.specs.declared.reading.After.TheVariants.{Rest}
 use Rattle.form_request.specs.declared.reading.Message.{Message}
 use Rattle.stream_handler.specs.Exchanges.{Answer, AreSound, messages_of, exchanges_of, replies_of, reply_to, looks_of}
 use Rattle.stream_handler.specs.Passing.{Passes, front_text, said}
