@@ -1,3 +1,4 @@
+pub mod Choosing
 pub mod HavingState
 pub mod Joining
 pub mod SelectState

@@ -82,7 +82,7 @@ impl Kernel for SelectKernel {
             return Err(Memory::OutOfMemory);
         }
         match tuple {
-            Some(tuple) => match selected(self.alloc, self.items.as_slice(), &tuple) {
+            Some(tuple) => match selected(self.alloc, self.items.as_slice(), tuple) {
                 Ok(made) => {
                     self.held = Some(made);
                     Ok(())

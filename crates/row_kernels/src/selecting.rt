@@ -1,5 +1,5 @@
 // What items make of a tuple.
-ghost use Rattle.std.specs.Prelude.{◌≡◌, [], IfOk, fold, option_map, if◌then◌else◌};
+ghost use Rattle.std.specs.Prelude.{◌≡◌, [], IfOk, OnOk, fold, option_map, if◌then◌else◌};
 ghost use Rattle.std.specs.List.{cons_option, filter_map};
 ghost use Rattle.std.specs.Option.{option_cmp};
 ghost use Rattle.std.specs.Ordering.{is_eq};
@@ -7,46 +7,112 @@ ghost use Rattle.tuple_values.specs.Document.{value_at, over};
 ghost use Rattle.tuple_values.specs.Order.{datum_cmp};
 ghost use Rattle.tuple_values.specs.Views.{datum_of};
 ghost use Rattle.expr_plan.specs.Rows.{chosen, with_value, with_text, changed, selected};
+ghost use Rattle.row_kernels.specs.Choosing.{chooses, is_chosen};
 
 use crate::joining::joined;
 use expr_plan::Item;
 use std::alloc::Global;
 use tuple_values::{Memory, Text, TryCopy, Tuple, Value, compare};
 
+/// How many fields a tuple has, and how many items there are, where values are moved out of it: out of
+/// a wider one a copy takes less time than closing the gap that a value leaves.
+const NARROW: usize = 64;
+
 /// What the items make of a tuple.
-pub(crate) fn selected(alloc: Global, items: &[Item], tuple: &Tuple) -> Result<Tuple, Memory>
-    ensures { IfOk result (λ made. made ≡ selected items.now tuple.now) }
+pub(crate) fn selected(alloc: Global, items: &[Item], tuple: Tuple) -> Result<Tuple, Memory>
+    ensures { IfOk result (λ made. made ≡ selected items.now tuple) }
 {
     let made = all_chosen(alloc, items, tuple)?;
     let changed = all_changed(alloc, made, items)?;
     Ok(changed)
 }
 
-// The chosen fields under their new names.
+// The chosen fields under their new names. What is chosen for the last time is moved.
 #[tactic(auto, using(crate::proofs::SelectLemmas::select_steps))]
-fn all_chosen(alloc: Global, items: &[Item], tuple: &Tuple) -> Result<Tuple, Memory>
-    ensures { IfOk result (λ made. made ≡ over [] (filter_map (chosen tuple.now) items.now)) }
+fn all_chosen(alloc: Global, items: &[Item], tuple: Tuple) -> Result<Tuple, Memory>
+    ensures { IfOk result (λ made. made ≡ over [] (filter_map (chosen tuple) items.now)) }
 {
+    let moves = items.len() <= NARROW && tuple.count() <= NARROW as u64;
+    let mut rest = tuple;
     let mut made = Tuple::empty(alloc);
-    for item in items {
-        made = with_chosen(alloc, made, item, tuple)?;
+    for k in 0..items.len() {
+        made = with_chosen(alloc, made, &items[k], &mut rest, moves, &items[k + 1..])?;
     }
     Ok(made)
 }
 
-// The tuple with the field that an item chooses of another, if it does.
-fn with_chosen(alloc: Global, made: Tuple, item: &Item, tuple: &Tuple) -> Result<Tuple, Memory>
-    ensures { IfOk result (λ more. more ≡ over made (cons_option (chosen tuple.now item.now) [])) }
+// The tuple with the field that an item chooses of another, if it does. The other one still has what
+// later items choose.
+fn with_chosen(
+    alloc: Global,
+    made: Tuple,
+    item: &Item,
+    rest: &mut Tuple,
+    moves: bool,
+    later: &[Item],
+) -> Result<Tuple, Memory>
+    ensures made { IfOk result (λ more. more ≡ over made (cons_option (chosen rest.old item.now) [])) }
+    ensures rest { OnOk result (filter_map (chosen rest.new) later.now
+        ≡ filter_map (chosen rest.old) later.now) }
 {
     let Item::Field { name, to } = item else {
         return Ok(made);
     };
-    let Some(value) = tuple.get(name.as_str()) else {
+    let Some(value) = take_value(alloc, rest, name.as_str(), moves, later)? else {
         return Ok(made);
     };
     let mut made = made;
-    made.put(to.copy(alloc)?, value.copy(alloc)?)?;
+    made.put(to.copy(alloc)?, value)?;
     Ok(made)
+}
+
+// The value of a field; it is moved where that is asked and no later item chooses it.
+#[tactic(auto, using(crate::proofs::ChoosingLemmas::chosen_still))]
+fn take_value(
+    alloc: Global,
+    rest: &mut Tuple,
+    name: &str,
+    moves: bool,
+    later: &[Item],
+) -> Result<Option<Value>, Memory>
+    ensures value { IfOk result (λ v. option_map datum_of v ≡ value_at name.now rest.old) }
+    ensures rest { OnOk result (filter_map (chosen rest.new) later.now
+        ≡ filter_map (chosen rest.old) later.now) }
+{
+    if !moves || is_chosen(name, later) {
+        return copy_maybe(alloc, rest.get(name));
+    }
+    Ok(rest.remove(name))
+}
+
+fn copy_maybe(alloc: Global, value: Option<&Value>) -> Result<Option<Value>, Memory>
+    ensures { IfOk result (λ v. option_map datum_of v ≡ option_map (λ w. datum_of w.now) value.entry) }
+{
+    match value {
+        Some(value) => Ok(Some(value.copy(alloc)?)),
+        None => Ok(None),
+    }
+}
+
+// Whether one of the items chooses the field.
+fn is_chosen(name: &str, items: &[Item]) -> bool
+    ensures { result ≡ is_chosen name.now items.now }
+{
+    for item in items {
+        if chooses(name, item) {
+            return true;
+        }
+    }
+    false
+}
+
+fn chooses(name: &str, item: &Item) -> bool
+    ensures { result ≡ chooses name.now item.now }
+{
+    match item {
+        Item::Field { name: field, .. } => name == field.as_str(),
+        Item::Replace { .. } | Item::Concat { .. } => false,
+    }
 }
 
 // The tuple after all replaces and concats.

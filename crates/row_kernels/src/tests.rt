@@ -189,9 +189,10 @@ fn fields_are_chosen_and_then_changed_in_order(rt: HostRuntime) -> Result<(), Fa
     items.push(field(alloc, "a", "c")?)?;
     items.push(field(alloc, "b", "d")?)?;
     items.push(field(alloc, "x", "y")?)?;
+    items.push(field(alloc, "a", "f")?)?;
     items.push(concat(alloc, &["x"], "z")?)?;
     let told = made(alloc, &items)?;
-    assert_eq!(rt; told.as_str(), "c=2;d=\"10\";e=\"5-10\";");
+    assert_eq!(rt; told.as_str(), "c=2;d=\"10\";e=\"5-10\";f=5;");
     Ok(())
 }
 
