@@ -5,3 +5,5 @@ pub mod TurnLemmas
 pub mod EndLemmas
 pub mod ReadingLemmas
 pub mod OneReading
+pub mod SomeHead
+pub mod SomeReading

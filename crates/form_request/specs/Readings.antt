@@ -73,3 +73,9 @@ HasOneReading =
     (names : List NameShards) (bytes : List ℕ) (messages others : List Message) (after other : After)
     → Reads names bytes messages after → Reads names bytes others other
     → (messages ≡ others) × (after ≡ other)
+
+-- bytes hold some list of whole messages, and something stands behind them
+abbrev pub HasReading : Type 0
+HasReading =
+    (names : List NameShards) (bytes : List ℕ)
+    → (messages : List Message) × (after : After) × Reads names bytes messages after

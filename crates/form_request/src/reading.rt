@@ -1,7 +1,7 @@
 // The messages of a stream that comes in these pieces.
 ghost use Rattle.std.specs.Prelude.{◌≡◌, [], IfOk};
 ghost use Rattle.std.specs.List.{flat_map};
-ghost use Rattle.form_request.specs.Readings.{Reads, HasOneReading};
+ghost use Rattle.form_request.specs.Readings.{Reads, HasOneReading, HasReading};
 
 use crate::{Request, Requests, Step100};
 use std::alloc::Global;
@@ -127,5 +127,6 @@ pub fn read_pieces(alloc: Global, names: &Names, pieces: &[Bytes]) -> Result<Rea
 /// Bytes hold one list of whole messages, and one thing stands behind them. So what a stream
 /// answers doesn't depend on how it is cut into pieces.
 pub fn one_reading()
-    ensures { HasOneReading }
+    ensures one { HasOneReading }
+    ensures some { HasReading }
 {}
