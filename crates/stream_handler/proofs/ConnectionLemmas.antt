@@ -1,17 +1,22 @@
 -- A connection, message by message to its end.
 use Rattle.io_edge.specs.Edge.{Appends}
-use Rattle.std.proofs.Common.{◌≡◌, ◌≢◌, ℕ, ◌<◌, ◌≤◌, length-append, Bool, true, false, List, [], ◌∷◌, ◌++◌, length, refl, sym, ap, subst, ◌∙◌, arith, append-nil, inl, inr}
+use Rattle.std.proofs.Common.{◌≡◌, ◌≢◌, ℕ, ◌+◌, ◌<◌, ◌≤◌, length-append, Bool, true, false, List, [], ◌∷◌, ◌++◌, length, refl, sym, ap, subst, ◌∙◌, arith, append-nil, inl, inr}
 use Rattle.std.proofs.lemmas.List.{map-append}
+use Rattle.std.specs.Prelude.{Option, Some, None}
 use Rattle.shard_versions.specs.declared.cut.CutMark.{CutMark}
 use Rattle.shard_versions.specs.declared.cut.OwnMark.{OwnMark}
 use Rattle.shard_versions.specs.declared.cut.Record.{Record}
 use Rattle.exchange_rules.specs.Following.{Writer, cleared}
 use Rattle.exchange_rules.specs.Rows.{Layout}
 use Rattle.exchange_rules.proofs.GrowthLemmas.{grows_same}
+use Rattle.form_request.specs.Streams.{Held}
 use Rattle.stream_handler.specs.Exchanges.{Answer, exchanges_of, replies_of}
-use Rattle.stream_handler.specs.Sessions.{Wire, Came, AreOpen, IsAnsweredInPart, IsBounded, IsUnanswered, IsWithin, EndsBy, Exchanged, IsOneServed, IsOver, IsServed, IsSession, most_requests, nothing, record_of}
+use Rattle.stream_handler.specs.Sessions.{Wire, Came, AreOpen, IsAnsweredInPart, IsBounded, IsOneEnd, IsUnanswered, IsWithin, EndsBy, Exchanged, IsOneServed, IsOver, IsServed, IsSession, most_requests, nothing, record_of, wire}
+use Rattle.stream_handler.specs.Serving.{end_of, exchanges_in}
 use Rattle.stream_handler.specs.declared.ending.End.{End}
 use Rattle.stream_handler.specs.declared.ending.End.TheVariants as end
+use Rattle.stream_handler.specs.declared.ending.OneEnd.{OneEnd}
+use Rattle.stream_handler.specs.declared.ending.OneEnd.TheVariants.{Served, Last, Over}
 use Rattle.stream_handler.specs.declared.exchange.Exchange.{Exchange}
 use Rattle.stream_handler.proofs.PassLemmas.{passes_none, untold}
 use Rattle.stream_handler.proofs.ServeLemmas.{over_join, served_join}
@@ -58,7 +63,7 @@ over_here l old new w v answers s = record {
 }
 
 -- as many as a connection has
-pub over_full : (l : Layout) (old new : Wire) (w v : Writer) (answers : List Answer)
+over_full : (l : Layout) (old new : Wire) (w v : Writer) (answers : List Answer)
     → IsServed l old new w v answers → length answers ≡ most_requests
     → IsOver l old new w v answers (record_of v) end.Closed
 over_full l old new w v answers s full = record {
@@ -73,10 +78,6 @@ over_full l old new w v answers s full = record {
 most_is : most_requests ≡ 10000
 unfolding most_requests
 most_is = refl
-
--- so many were answered
-pub is_full : (n : ℕ) → n ≡ 10000 → n ≡ most_requests
-is_full n e = e ∙ sym most_is
 
 -- the exchanges with one more
 pub exchanges_more : (exchanges : List Exchange) (answers : List Answer) (a : Answer) (x : Exchange)
@@ -196,32 +197,29 @@ session_cleared l old new w v exchanges rest e s = record {
       },
     )
 
-pub session_of : (l m : Layout) (old new : Wire) (w u v z : Writer) (exchanges items : List Exchange)
-    (rest : Record) (e : End) → m ≡ l → u ≡ cleared w → z ≡ cleared v → exchanges ≡ items
-    → rest ≡ record_of v → IsBounded m old new u v items (record_of v) e
-    → IsBounded l old new w z exchanges rest e
-session_of l m old new w u v z exchanges items rest e same began left are told s =
-    let a = subst (λ k. IsBounded k old new (cleared w) v items (record_of v) e) same
-    (subst (λ x. IsBounded m old new x v items (record_of v) e) began s) in
-    let b : IsBounded l old new w (cleared v) items (record_of v) e = record {
-      session = session_cleared l old new w v items (record_of v) e a.session;
-      within = a.within;
-    } in
-    subst (λ x. IsBounded l old new w x exchanges rest e) (sym left)
-    (subst (λ r. IsBounded l old new w (cleared v) exchanges r e) (sym told)
-    (subst (λ x. IsBounded l old new w (cleared v) x (record_of v) e) (sym are) b))
+-- a whole connection, between the two times at which the record is taken
+pub session_of : {l m : Layout} {held start : Held} {left : Option (List ℕ)} {reads : ℕ}
+    {written : Option (List ℕ)} {writes : ℕ} {new : Wire} {w u v z : Writer}
+    {exchanges items : List Exchange} {rest : Record} {e : End} → m ≡ l → held ≡ start → u ≡ cleared w
+    → z ≡ cleared v → exchanges ≡ items → rest ≡ record_of v
+    → IsBounded m (wire held left reads written writes) new u v items (record_of v) e
+    → IsBounded l (wire start left reads written writes) new w z exchanges rest e
+session_of same begins fresh left are told s =
+    let a = rw (same, begins, fresh) at s in
+    rw (left, are, told)
+    (record { session = session_cleared _ _ _ _ _ _ _ _ a.session; within = a.within })
 
 -- fewer were answered than a connection has
-pub are_few : (n c : ℕ) → n ≡ c → c < 10000 → n < most_requests
+are_few : (n c : ℕ) → n ≡ c → c < 10000 → n < most_requests
 are_few n c e less = omega (arith, e, less, most_is)
 
 -- with one more they are no more
-pub are_fitting : (answers : List Answer) (a : Answer) → length answers < most_requests
+are_fitting : (answers : List Answer) (a : Answer) → length answers < most_requests
     → length (answers ++ a ∷ []) ≤ most_requests
 are_fitting answers a less = omega (arith, less, length-append answers (a ∷ []))
 
 -- whatever ends it then
-pub within_few : (answers : List Answer) (e : End) → length answers < most_requests → AreOpen answers
+within_few : (answers : List Answer) (e : End) → length answers < most_requests → AreOpen answers
     → IsWithin answers e
 within_few answers end.Ended less opens = (less, opens)
 within_few answers end.Closed less opens = omega (arith, less)
@@ -232,7 +230,7 @@ within_few answers end.WriteFault less opens = omega (arith, less)
 within_few answers end.OutOfMemory less opens = (less, opens)
 
 -- one more that doesn't close
-pub open_more : (answers : List Answer) (a : Answer) → AreOpen answers
+open_more : (answers : List Answer) (a : Answer) → AreOpen answers
     → a.message.request.closes ≡ false → AreOpen (answers ++ a ∷ [])
 open_more [] a opens is = (is, tt)
 open_more (b ∷ answers) a opens is = (opens.0, open_more answers a opens.1 is)
@@ -242,3 +240,99 @@ pub record_is : (r : Record) (v : Writer) → r.marks ≡ v.marks → r.own ≡ 
 record_is r v m o =
     ap (λ (marks : List CutMark). let x : Record = record { marks = marks; own = r.own } in x) m
     ∙ ap (λ (own : List OwnMark). let x : Record = record { marks = v.marks; own = own } in x) o
+
+-- a connection goes on: so many messages were answered, with these exchanges, and none closes
+pub record GoesOn (l m : Layout) (old new : Wire) (w v : Writer) (exchanges : List Exchange) (count : ℕ)
+    : Type 0 where
+  pub same : m ≡ l
+  pub answers : List Answer
+  pub exchanges_are : exchanges ≡ exchanges_of answers
+  pub counted : length answers ≡ count
+  pub are_open : AreOpen answers
+  pub served : IsServed l old new w v answers
+
+-- it goes on, or is over
+abbrev pub LeadsTo : Layout → Layout → Wire → Wire → Writer → Writer → List Exchange → ℕ → Option End
+    → Type 0
+LeadsTo l m old new w v exchanges count None = GoesOn l m old new w v exchanges count
+LeadsTo l m old new w v exchanges count (Some e) =
+    IsBounded l old new w v exchanges (record_of v) e
+
+-- at its start
+pub goes_at_start : {l : Layout} {start : Wire} {w : Writer} {exchanges : List Exchange}
+    → exchanges ≡ [] → record_of w ≡ nothing → GoesOn l l start start w w exchanges 0
+goes_at_start {l} {start} {w} none fresh = record {
+  same = refl;
+  answers = [];
+  exchanges_are = none;
+  counted = refl;
+  are_open = tt;
+  served = served_none l start w fresh;
+}
+
+-- where memory is wanting
+pub ends_of_memory : {l m : Layout} {old new : Wire} {w v : Writer} {xs ys : List Exchange} {count : ℕ}
+    → GoesOn l m old new w v xs count → count < 10000 → ys ≡ xs
+    → IsBounded l old new w v ys (record_of v) end.OutOfMemory
+ends_of_memory {l} {m} {old} {new} {w} {v} p few same = record {
+  session = record {
+    answers = p.answers;
+    exchanges_are = same ∙ p.exchanges_are;
+    over = over_here l old new w v p.answers p.served;
+  };
+  within = within_few p.answers end.OutOfMemory (are_few _ _ p.counted few) p.are_open;
+}
+
+-- with as many as it may have
+pub ends_when_full : {l m : Layout} {old new : Wire} {w v : Writer} {xs : List Exchange} {count : ℕ}
+    → GoesOn l m old new w v xs count → count ≡ 10000
+    → IsBounded l old new w v xs (record_of v) end.Closed
+ends_when_full {l} {m} {old} {new} {w} {v} p is =
+    let full = p.counted ∙ is ∙ sym most_is in
+    record {
+      session = record {
+        answers = p.answers;
+        exchanges_are = p.exchanges_are;
+        over = over_full l old new w v p.answers p.served full;
+      };
+      within = omega (arith, full);
+    }
+
+module _ (l m : Layout) (old mid new : Wire) (u v w : Writer) (xs : List Exchange) (n : ℕ)
+    (p : GoesOn l m old mid u v xs n) (few : length p.answers < most_requests) where
+  -- one message further
+  led : (one : OneEnd) → IsOneEnd l mid new v w one
+      → LeadsTo l l old new u w (xs ++ exchanges_in one) (n + 1) (end_of one)
+  led (Served x) s = record {
+    same = refl;
+    answers = p.answers ++ s.answer ∷ [];
+    exchanges_are = exchanges_more xs p.answers s.answer x p.exchanges_are s.exchange;
+    counted = omega (arith, length-append p.answers (s.answer ∷ []), p.counted);
+    are_open = open_more p.answers s.answer p.are_open s.closes;
+    served = served_more l old mid new u v w p.answers x false p.served s;
+  }
+  led (Last x) s = record {
+    session = over_closed l old mid new u v w p.answers xs x p.exchanges_are p.served s;
+    within = are_fitting p.answers s.answer few;
+  }
+  led (Over e None) s =
+      rw append-nil (record {
+        session = over_none l old mid new u v w p.answers xs e p.exchanges_are p.served s;
+        within = within_few p.answers e few p.are_open;
+      })
+  led (Over e (Some x)) s =
+      rw s.0 (record {
+        session = over_one l old mid new u v w p.answers xs x p.exchanges_are p.served s.1;
+        within = are_fitting p.answers s.1.answer few;
+      })
+
+-- one more message was served: the connection goes on, or is over
+pub leads_to : {l m k : Layout} {old mid : Wire} (new : Wire) {u v : Writer} (w : Writer)
+    {xs ys zs : List Exchange} {n : ℕ} (one : OneEnd) {kept : Option End} (r : Option End)
+    → GoesOn l m old mid u v xs n → n < 10000 → ys ≡ xs → IsOneEnd m mid new v w one → k ≡ m
+    → zs ≡ ys ++ exchanges_in one → kept ≡ end_of one → kept ≡ r
+    → LeadsTo l k old new u w zs (n + 1) r
+leads_to new w one r p less room s same is end are =
+    let t = rw p.same at s in
+    rw (same ∙ p.same, is, room, sym are ∙ end)
+    (led _ _ _ _ _ _ _ _ _ _ p (are_few _ _ p.counted less) one t)

@@ -1,11 +1,12 @@
 -- How a request is carried out and its reply written (own).
-use Rattle.std.specs.Prelude.{ℕ, ◌≡◌, ◌≤◌, true, false, List, Option, Some, None}
+use Rattle.std.specs.Prelude.{ℕ, ◌≡◌, ◌≤◌, true, false, List, [], ◌∷◌, Option, Some, None}
 use Rattle.io_edge.specs.Edge.{Appends, AppendsPrefix, Rose}
 use Rattle.exchange_rules.specs.Following.{Writer, Answers, Begins, cleared}
 use Rattle.exchange_rules.specs.Rows.{Layout}
 use Rattle.form_request.specs.declared.request.Request.{Request}
 use Rattle.stream_handler.specs.Outcomes.{reply_of}
 use Rattle.stream_handler.specs.Requests.{request_course}
+use Rattle.stream_handler.specs.declared.ending.End.{End}
 use Rattle.stream_handler.specs.declared.ending.End.TheVariants as end
 use Rattle.stream_handler.specs.declared.ending.OneEnd.{OneEnd}
 use Rattle.stream_handler.specs.declared.ending.OneEnd.TheVariants.{Served, Last, Over}
@@ -67,3 +68,16 @@ IsReplied l old new request s (Over e None) =
     (e ≡ end.OutOfMemory) × IsLeftOff l old new request s
 IsReplied l old new request s (Over e (Some x)) =
     (e ≡ end.WriteFault) × IsWrittenInPart l old new request s x
+
+-- the exchange of one message that was served, if there is one
+abbrev pub exchanges_in : OneEnd → List Exchange
+exchanges_in (Served x) = x ∷ []
+exchanges_in (Last x) = x ∷ []
+exchanges_in (Over e None) = []
+exchanges_in (Over e (Some x)) = x ∷ []
+
+-- how a connection ends with it, unless it goes on
+abbrev pub end_of : OneEnd → Option End
+end_of (Served x) = None
+end_of (Last x) = Some end.Closed
+end_of (Over e unfinished) = Some e

@@ -1,7 +1,8 @@
 // The serving of a whole connection.
-ghost use Rattle.std.specs.Prelude.{◌≡◌};
+ghost use Rattle.std.specs.Prelude.{◌≡◌, ◌<◌, ◌++◌, vec_capacity, vec_len};
 ghost use Rattle.form_request.specs.Streams.{begun};
 ghost use Rattle.stream_handler.specs.Sessions.{IsBounded, IsConnection, nothing, record_of, wire};
+ghost use Rattle.stream_handler.specs.Serving.{end_of, exchanges_in};
 
 use crate::{End, Exchange, Exchanges, OneEnd, SessionEnd, serve_one};
 use form_request::Requests;
@@ -11,6 +12,30 @@ use stream_site::Turns;
 
 /// How many requests of a connection are answered at most.
 const MOST: u64 = 10_000;
+
+// Keeps the exchange of a message that was served, and says whether the connection is over.
+fn keep(exchanges: &mut Vec<Exchange>, one: OneEnd) -> Option<End>
+    requires { vec_len exchanges.old < vec_capacity exchanges.old }
+    ensures items { exchanges.new.items ≡ exchanges.old.items ++ exchanges_in one }
+    ensures end { result ≡ end_of one }
+{
+    match one {
+        OneEnd::Served(exchange) => {
+            exchanges.push_reserved(exchange);
+            None
+        }
+        OneEnd::Last(exchange) => {
+            exchanges.push_reserved(exchange);
+            Some(End::Closed)
+        }
+        OneEnd::Over { end, unfinished } => {
+            if let Some(exchange) = unfinished {
+                exchanges.push_reserved(exchange);
+            }
+            Some(end)
+        }
+    }
+}
 
 // Serves the requests of a connection until it is over, or as many as it has at most.
 fn serve_all<T: Turns, S: Source, K: Sink>(
@@ -34,19 +59,9 @@ fn serve_all<T: Turns, S: Source, K: Sink>(
         if exchanges.reserve(1).is_err() {
             return (exchanges, End::OutOfMemory);
         }
-        match serve_one(site, alloc, requests, source, sink) {
-            OneEnd::Served(exchange) => exchanges.push_reserved(exchange),
-            OneEnd::Last(exchange) => {
-                exchanges.push_reserved(exchange);
-                return (exchanges, End::Closed);
-            }
-            OneEnd::Over { end, unfinished } => match unfinished {
-                None => return (exchanges, end),
-                Some(exchange) => {
-                    exchanges.push_reserved(exchange);
-                    return (exchanges, end);
-                }
-            },
+        let one = serve_one(site, alloc, requests, source, sink);
+        if let Some(end) = keep(&mut exchanges, one) {
+            return (exchanges, end);
         }
     }
     (exchanges, End::Closed)
