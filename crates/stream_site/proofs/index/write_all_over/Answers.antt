@@ -34,102 +34,72 @@ take_step-step-requires g c =
 
 pub locate-cell-requires : goal.locate-cell-requires
 locate-cell-requires g c =
-    here_below (g.T.Turns.layout c.args.site.now) (g.T.Turns.layout c.loop-shard.site)
-    c.args.collection.now c.loop-shard.shard c.width-shard-end.result c.loop-shard.invariant.same
-    c.width-shard-end.ensures c.loop-shard-test.true
+    here_below _ _ c.args.collection.now _ _ c.loop-shard.invariant.same c.width-shard-end.ensures
+    c.loop-shard-test.true
 
 pub write_over-requires-clause-own : goal.write_over-requires-clause-own
 write_over-requires-clause-own g c =
-    (taken (g.T.Turns.writer c.args.site.now).me (g.T.Turns.writer c.loop-shard.site).me
-    (shards_of (g.T.Turns.layout c.args.site.now).names c.args.collection.now) c.loop-shard.shard
-    c.args.steps.now.items c.loop-shard.steps.items c.take_step-step.result c.loop-shard.stand
-    c.len-count.result c.requires c.loop-shard.invariant.reached.reached.same
+    (taken _ _ _ _ _ _ _ _ _ c.requires c.loop-shard.invariant.reached.reached.same
     (subst (λ n. c.loop-shard.shard < n) c.width-shard-end.ensures c.loop-shard-test.true)
     c.take_step-step.ensures.step c.loop-shard.invariant.rest c.loop-shard.invariant.counted
     c.len-count.ensures).own
 
 pub write_over-requires-clause-storable : goal.write_over-requires-clause-storable
 write_over-requires-clause-storable g c =
-    (taken (g.T.Turns.writer c.args.site.now).me (g.T.Turns.writer c.loop-shard.site).me
-    (shards_of (g.T.Turns.layout c.args.site.now).names c.args.collection.now) c.loop-shard.shard
-    c.args.steps.now.items c.loop-shard.steps.items c.take_step-step.result c.loop-shard.stand
-    c.len-count.result c.requires c.loop-shard.invariant.reached.reached.same
+    (taken _ _ _ _ _ _ _ _ _ c.requires c.loop-shard.invariant.reached.reached.same
     (subst (λ n. c.loop-shard.shard < n) c.width-shard-end.ensures c.loop-shard-test.true)
     c.take_step-step.ensures.step c.loop-shard.invariant.rest c.loop-shard.invariant.counted
     c.len-count.ensures).storable
 
 pub returns-in-Err-clause-course : goal.returns-in-Err-clause-course
 returns-in-Err-clause-course g c =
-    let l = g.T.Turns.layout c.args.site.now in
-    let share = share_in c.args.steps.now.items in
-    let at = write_at l c.args.collection.now share c.args.commit in
-    let n = shards_of l.names c.args.collection.now in
     let lt = subst (λ n. c.loop-shard.shard < n) c.width-shard-end.ensures c.loop-shard-test.true in
-    let t = taken (g.T.Turns.writer c.args.site.now).me (g.T.Turns.writer c.loop-shard.site).me n
-    c.loop-shard.shard c.args.steps.now.items c.loop-shard.steps.items
-    c.take_step-step.result c.loop-shard.stand c.len-count.result c.requires
-    c.loop-shard.invariant.reached.reached.same lt c.take_step-step.ensures.step
-    c.loop-shard.invariant.rest c.loop-shard.invariant.counted c.len-count.ensures in
-    write_refused (g.T.Turns.writer c.args.site.now) (g.T.Turns.writer c.loop-shard.site)
-    (g.T.Turns.writer c.write_over.new.site) l c.args.collection.now share c.args.commit
-    c.loop-shard.stand c.loop-shard.shard n c.in-Err.fault lt c.loop-shard.invariant.reached
+    let t = taken _ _ _ _ _ _ _ _ _ c.requires c.loop-shard.invariant.reached.reached.same lt
+    c.take_step-step.ensures.step c.loop-shard.invariant.rest c.loop-shard.invariant.counted
+    c.len-count.ensures in
+    write_refused _ _ _ _ c.args.collection.now _ _ _ _ _ _ lt c.loop-shard.invariant.reached
     (write_here c.loop-shard.stand (g.T.Turns.writer c.loop-shard.site)
-    (g.T.Turns.writer c.write_over.new.site) l (g.T.Turns.layout c.loop-shard.site)
-    c.args.collection.now share c.args.commit c.loop-shard.stand c.loop-shard.shard
-    c.locate-cell.result (writes_in (kinds_of c.take_step-step.result))
-    (kinds_of c.take_step-step.result) (Err c.in-Err.fault) c.loop-shard.invariant.same
-    c.locate-cell.ensures.cell t.kinds c.loop-shard.invariant.counted c.in-Err.ensures.course)
+    (g.T.Turns.writer c.write_over.new.site) _ _ c.args.collection.now _ c.args.commit _ _ _
+    (writes_in (kinds_of c.take_step-step.result)) _ (Err c.in-Err.fault)
+    c.loop-shard.invariant.same c.locate-cell.ensures.cell t.kinds c.loop-shard.invariant.counted
+    c.in-Err.ensures.course)
 
 pub returns-in-Err-clause-layout : goal.returns-in-Err-clause-layout
 returns-in-Err-clause-layout g c = c.in-Err.ensures.layout ∙ c.loop-shard.invariant.same
 
 pub overflow_add-stand : goal.overflow_add-stand
 overflow_add-stand g c =
-    let l = g.T.Turns.layout c.args.site.now in
-    let n = shards_of l.names c.args.collection.now in
     let lt = subst (λ n. c.loop-shard.shard < n) c.width-shard-end.ensures c.loop-shard-test.true in
-    let t = taken (g.T.Turns.writer c.args.site.now).me (g.T.Turns.writer c.loop-shard.site).me n
-    c.loop-shard.shard c.args.steps.now.items c.loop-shard.steps.items
-    c.take_step-step.result c.loop-shard.stand c.len-count.result c.requires
-    c.loop-shard.invariant.reached.reached.same lt c.take_step-step.ensures.step
-    c.loop-shard.invariant.rest c.loop-shard.invariant.counted c.len-count.ensures in
+    let t = taken _ _ _ _ _ _ _ _ _ c.requires c.loop-shard.invariant.reached.reached.same lt
+    c.take_step-step.ensures.step c.loop-shard.invariant.rest c.loop-shard.invariant.counted
+    c.len-count.ensures in
     let fits = t.fits in
     omega (arith, fits)
 
 pub loop-shard-preserved : goal.loop-shard-preserved
 loop-shard-preserved g c =
     let l = g.T.Turns.layout c.args.site.now in
-    let share = share_in c.args.steps.now.items in
-    let at = write_at l c.args.collection.now share c.args.commit in
+    let at = write_at l c.args.collection.now (share_in c.args.steps.now.items) c.args.commit in
     let n = shards_of l.names c.args.collection.now in
     let lt = subst (λ n. c.loop-shard.shard < n) c.width-shard-end.ensures c.loop-shard-test.true in
-    let t = taken (g.T.Turns.writer c.args.site.now).me (g.T.Turns.writer c.loop-shard.site).me n
-    c.loop-shard.shard c.args.steps.now.items c.loop-shard.steps.items
-    c.take_step-step.result c.loop-shard.stand c.len-count.result c.requires
-    c.loop-shard.invariant.reached.reached.same lt c.take_step-step.ensures.step
-    c.loop-shard.invariant.rest c.loop-shard.invariant.counted c.len-count.ensures in
-    let mid = g.T.Turns.writer c.loop-shard.site in
-    let new = g.T.Turns.writer c.write_over.new.site in
-    let done = write_here 0 mid new l (g.T.Turns.layout c.loop-shard.site) c.args.collection.now
-    share c.args.commit c.loop-shard.stand c.loop-shard.shard c.locate-cell.result
-    (writes_in (kinds_of c.take_step-step.result)) (kinds_of c.take_step-step.result) (Ok tt)
-    c.loop-shard.invariant.same c.locate-cell.ensures.cell t.kinds
-    c.loop-shard.invariant.counted c.in-Ok.ensures.course in
+    let t = taken _ _ _ _ _ _ _ _ _ c.requires c.loop-shard.invariant.reached.reached.same lt
+    c.take_step-step.ensures.step c.loop-shard.invariant.rest c.loop-shard.invariant.counted
+    c.len-count.ensures in
+    let done = write_here 0 (g.T.Turns.writer c.loop-shard.site)
+    (g.T.Turns.writer c.write_over.new.site) l _ c.args.collection.now _ c.args.commit _ _ _
+    (writes_in (kinds_of c.take_step-step.result)) _ (Ok tt) c.loop-shard.invariant.same
+    c.locate-cell.ensures.cell t.kinds c.loop-shard.invariant.counted c.in-Ok.ensures.course in
     record {
       same = c.in-Ok.ensures.layout ∙ c.loop-shard.invariant.same;
-      long = long_after c.args.steps.now.items c.loop-shard.steps.items
-          c.take_step-step.new.steps.items c.loop-shard.shard c.loop-shard.invariant.long
-          c.take_step-step.ensures.rest;
-      rest = rest_after c.args.steps.now.items c.loop-shard.steps.items
-          c.take_step-step.new.steps.items c.loop-shard.shard c.loop-shard.invariant.rest
-          c.take_step-step.ensures.rest;
+      long = long_after _ _ _ _ c.loop-shard.invariant.long c.take_step-step.ensures.rest;
+      rest = rest_after _ _ _ _ c.loop-shard.invariant.rest c.take_step-step.ensures.rest;
       counted = t.next;
-      reached = subst (λ k. Stands (g.T.Turns.writer c.args.site.now) new (each_shard at 0 n)
+      reached = subst (λ k. Stands (g.T.Turns.writer c.args.site.now)
+          (g.T.Turns.writer c.write_over.new.site) (each_shard at 0 n)
           (each_shard at (c.loop-shard.shard + 1) (n - (c.loop-shard.shard + 1)))
           (c.loop-shard.stand + k)) t.writes
-          (each_stands (g.T.Turns.writer c.args.site.now) mid new (each_shard at 0 n) at n
-          c.loop-shard.shard c.loop-shard.stand (writes_in (kinds_of c.take_step-step.result)) tt
-          lt c.loop-shard.invariant.reached done);
+          (each_stands _ _ _ (each_shard at 0 n) at n _ _ _ tt lt c.loop-shard.invariant.reached
+          done);
     }
 
 pub returns-clause-course : goal.returns-clause-course
@@ -138,17 +108,15 @@ returns-clause-course g c =
     let share = share_in c.args.steps.now.items in
     let at = write_at l c.args.collection.now share c.args.commit in
     let n = shards_of l.names c.args.collection.now in
-    let w = g.T.Turns.writer c.args.site.now in
-    let now = g.T.Turns.writer c.loop-shard.site in
     let over = subst (λ k. k ≤ c.loop-shard.shard) c.width-shard-end.ensures
     c.loop-shard-test.false in
     let within = subst (λ k. c.loop-shard.shard ≤ k) c.width-shard-end.ensures
     c.loop-shard.auto.shard-end in
     let last : c.loop-shard.shard ≡ n = omega (arith, over, within) in
-    subst (λ k. Stands w now (each_shard at 0 n) (ends (Ok tt)) k)
+    subst (λ k. Stands (g.T.Turns.writer c.args.site.now) (g.T.Turns.writer c.loop-shard.site)
+    (each_shard at 0 n) (ends (Ok tt)) k)
     (c.loop-shard.invariant.counted ∙ ap (length_below share) last)
-    (each_end w now (each_shard at 0 n) at n c.loop-shard.shard c.loop-shard.stand over
-    c.loop-shard.invariant.reached)
+    (each_end _ _ (each_shard at 0 n) at n _ _ over c.loop-shard.invariant.reached)
 
 pub returns-clause-layout : goal.returns-clause-layout
 returns-clause-layout g c = c.loop-shard.invariant.same
