@@ -1,12 +1,12 @@
 -- A document is a finite map: what a lookup finds after each edit, and two documents in order with equal lookups are one.
-use Rattle.std.proofs.Common.{◌≡◌, ◌≢◌, ℕ, [], ◌∷◌, Option, Some, None, refl, ap, sym, ◌∙◌, subst, if◌then◌else◌}
+use Rattle.std.proofs.Common.{◌≡◌, ◌≢◌, ℕ, List, [], ◌∷◌, Option, Some, None, Bool, true, false, cond, filter, refl, ap, sym, ◌∙◌, subst, if◌then◌else◌}
 use Rattle.std.specs.Str.{bytes_eq}
 use Rattle.std.specs.Option.{option_or}
 use Rattle.std.specs.Ordering.{nat_cmp}
 use Rattle.std.specs.FinMap.{slice_cmp-IsAntisymmetric}
 use Rattle.std.specs.declared.cmp.Ordering.{Ordering}
 use Rattle.std.specs.declared.cmp.Ordering.TheVariants.{Less, Equal, Greater}
-use Rattle.tuple_values.specs.Document.{ByteList, bytes_cmp, Datum, Doc, IsBelow, Rises, value_at, put, put_by, over}
+use Rattle.tuple_values.specs.Document.{ByteList, bytes_cmp, Datum, Doc, IsBelow, Rises, value_at, put, put_by, without, over, is_named}
 use Rattle.tuple_values.proofs.BytesLemmas.{greater_back, less_trans, same_left, itself, equal_back, bytes_by}
 use Rattle.tuple_values.proofs.DocumentLemmas.{below_absent}
 use Rattle.std.proofs.lemmas.Cmp.{ranked}
@@ -103,3 +103,67 @@ same_doc (f ∷ d) (g ∷ e) rd re same = go (same_doc d e rd.1 re.1) (bytes_cmp
         let rest : d ≡ e = later (λ n. tails n f d g e rd.0 re.0 i (same n)) in
         let value : f.1 ≡ g.1 = cc in
         ap (λ (n : ByteList). (n, f.1) ∷ d) names ∙ ap (λ (v : Datum). (g.0, v) ∷ d) value ∙ ap (λ (r : Doc). g ∷ r) rest
+
+-- a removed name is absent
+pub value_without : (n : ByteList) (d : Doc) → Rises d → value_at n (without n d) ≡ None
+value_without n [] rises = refl
+value_without n (f ∷ d) rises = go (value_without n d rises.1) (bytes_cmp f.0 n) refl
+  where
+    go : value_at n (without n d) ≡ None → (o : Ordering) → bytes_cmp f.0 n ≡ o
+        → value_at n (put_by o (f ∷ without n d) d (f ∷ without n d)) ≡ None
+    go later Less e = value_less n f (without n d) (λ i. let p : Less ≡ Equal = sym e ∙ i in cc) ∙ later
+    go later Equal e = subst (λ m. value_at m d ≡ None) (bytes_same f.0 n e) (below_absent f.0 d rises.0)
+    go later Greater e = value_less n f (without n d) (λ i. let p : Greater ≡ Equal = sym e ∙ i in cc) ∙ later
+
+-- and every other name stays
+pub value_without_other : (m n : ByteList) (d : Doc) → bytes_cmp n m ≢ Equal
+    → value_at m (without n d) ≡ value_at m d
+value_without_other m n [] other = refl
+value_without_other m n (f ∷ d) other =
+    go (value_without_other m n d other) (bytes_cmp f.0 n) refl
+  where
+    go : value_at m (without n d) ≡ value_at m d → (o : Ordering) → bytes_cmp f.0 n ≡ o
+        → value_at m (put_by o (f ∷ without n d) d (f ∷ without n d)) ≡ value_at m (f ∷ d)
+    go later Less e = ap (λ (r : Option Datum). if bytes_eq f.0 m then Some f.1 else r) later
+    go later Equal e = sym (value_less m f d (λ i. other (sym (same_left f.0 n m e) ∙ i)))
+    go later Greater e = ap (λ (r : Option Datum). if bytes_eq f.0 m then Some f.1 else r) later
+
+-- a field that a list doesn't name has another name than one that it names
+apart_by : (names : List ByteList) (n : ByteList) (f : ByteList × Datum) (b : Bool)
+    → is_named f.0 names ≡ b → is_named n names ≢ b → bytes_cmp f.0 n ≢ Equal
+apart_by names n f b here other same =
+    other (subst (λ m. is_named m names ≡ b) (bytes_same f.0 n same) here)
+
+-- a name that is cut to is as before
+pub value_cut : (n : ByteList) (names : List ByteList) (d : Doc) → is_named n names ≡ true
+    → value_at n (filter (λ f. is_named f.0 names) d) ≡ value_at n d
+value_cut n names [] named = refl
+value_cut n names (f ∷ d) named =
+    go (value_cut n names d named) (is_named f.0 names) refl
+  where
+    kept : List (ByteList × Datum)
+    kept = filter (λ g. is_named g.0 names) d
+
+    go : value_at n kept ≡ value_at n d → (b : Bool) → is_named f.0 names ≡ b
+        → value_at n (cond b (f ∷ kept) kept) ≡ value_at n (f ∷ d)
+    go later true e = ap (λ (r : Option Datum). if bytes_eq f.0 n then Some f.1 else r) later
+    go later false e =
+        later ∙ sym (value_less n f d (apart_by names n f false e
+        (λ i. let p : true ≡ false = sym named ∙ i in cc)))
+
+-- and another name is absent
+pub value_cut_other : (n : ByteList) (names : List ByteList) (d : Doc) → is_named n names ≡ false
+    → value_at n (filter (λ f. is_named f.0 names) d) ≡ None
+value_cut_other n names [] named = refl
+value_cut_other n names (f ∷ d) named =
+    go (value_cut_other n names d named) (is_named f.0 names) refl
+  where
+    kept : List (ByteList × Datum)
+    kept = filter (λ g. is_named g.0 names) d
+
+    go : value_at n kept ≡ None → (b : Bool) → is_named f.0 names ≡ b
+        → value_at n (cond b (f ∷ kept) kept) ≡ None
+    go later true e =
+        value_less n f kept (apart_by names n f true e
+        (λ i. let p : false ≡ true = sym named ∙ i in cc)) ∙ later
+    go later false e = later

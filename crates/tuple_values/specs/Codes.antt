@@ -1,4 +1,4 @@
--- Documents as lists of tokens, by which a proof tells them apart.
+-- Documents as lists of tokens, by which a proof tells them apart (own).
 use Rattle.std.specs.Prelude.{ℕ, zero, suc, ℤ, pos, ◌≡◌, List, [], ◌∷◌, refl}
 use Rattle.std.proofs.Common.{ap, ◌∙◌}
 use Rattle.std.specs.Coded.{Coded, code_by, coded×, coded_ℕ, coded_ℤ, coded_list}

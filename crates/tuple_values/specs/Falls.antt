@@ -1,4 +1,4 @@
--- Each tuple is smaller than the one that holds it, which recursions over values rest on.
+-- Each tuple is smaller than the one that holds it, which recursions over values rest on (own).
 use Rattle.std.specs.Prelude.{◌+◌, ◌≤◌, max, List, [], ◌∷◌}
 use Rattle.std.proofs.Common.{arith}
 use denote.Param.Weighed.{most}

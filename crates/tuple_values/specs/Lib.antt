@@ -7,3 +7,4 @@ pub mod Whole
 pub mod Kinds
 pub mod Sizes
 pub mod Keys
+pub mod Collections

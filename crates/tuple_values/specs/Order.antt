@@ -1,4 +1,4 @@
--- How values compare: numbers, then texts by bytes, then groups item by item.
+-- How values compare: numbers, then texts by bytes, then groups item by item (own).
 use Rattle.std.specs.Ordering.{int_cmp, ordering_then}
 use Rattle.std.specs.declared.cmp.Ordering.{Ordering}
 use Rattle.std.specs.declared.cmp.Ordering.TheVariants.{Less, Equal, Greater}

@@ -1,4 +1,4 @@
--- The documents that the program's values stand for.
+-- The documents that the program's values stand for (own).
 use Rattle.std.specs.Prelude.{List, map, Option, option_map}
 use Rattle.tuple_values.specs.Document.{ByteList, Datum, long, text, group, Doc, rows_of}
 use Rattle.tuple_values.specs.declared.value.Value.{Value}

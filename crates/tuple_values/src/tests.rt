@@ -276,3 +276,38 @@ fn names_writes_and_tuples_are_copied(rt: HostRuntime) -> Result<(), Fail> {
     );
     Ok(())
 }
+
+fn is_sent<T: Send>(_: &T) {}
+
+fn is_shared<T: Sync>(_: &T) {}
+
+// Another thread may be given these, and may read them.
+#[test]
+fn tuples_go_to_other_threads(rt: HostRuntime) -> Result<(), Fail> {
+    let alloc = rt.alloc();
+    let tuple = sample(alloc)?;
+    let tuples = Tuples::empty(alloc);
+    is_sent(&tuple);
+    is_shared(&tuple);
+    is_sent(&tuples);
+    is_shared(&tuples);
+    Ok(())
+}
+
+#[test]
+fn a_collection_is_found_by_its_name(rt: HostRuntime) -> Result<(), Fail> {
+    let alloc = rt.alloc();
+    let mut names = Names::new(alloc);
+    for (name, shards) in [("a", 1), ("ab", 2)] {
+        let name = Text::of(alloc, name)?;
+        names.push(NameShards { name, shards })?;
+    }
+    let mut found = 0;
+    for name in ["ab", "abc", ""] {
+        if let Some(entry) = names.find(name.as_bytes()) {
+            found = entry.shards;
+        }
+    }
+    assert_eq!(rt; found, 2);
+    Ok(())
+}

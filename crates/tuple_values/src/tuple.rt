@@ -1,5 +1,5 @@
 // A tuple as a finite map.
-ghost use Rattle.std.specs.Prelude.{◌≡◌, ◌≢◌, ◌<◌, [], IfOk, IfErr, OnOk, OnErr, filter, length, option_map, slice_index_or, Some};
+ghost use Rattle.std.specs.Prelude.{◌≡◌, ◌≢◌, ◌<◌, List, [], true, false, IfOk, IfErr, OnOk, OnErr, filter, length, option_map, slice_index_or, Some, None};
 ghost use Rattle.std.specs.Option.{option_or};
 ghost use Rattle.std.specs.List.Sorted.{IsSearchInRange};
 ghost use Rattle.std.specs.declared.cmp.Ordering.TheVariants.{Equal};
@@ -119,13 +119,24 @@ fn place_of(fields: &[Field], name: &str) -> Result<usize, usize>
     )
 }
 
-/// A tuple is a finite map: what a look-up finds after `put` and `over`, and that two tuples in
-/// order whose look-ups all agree are the same.
+/// A tuple is a finite map: what a look-up finds after `put`, `remove`, `cut` and `over`, and that two
+/// tuples in order whose look-ups all agree are the same.
 pub fn tuples_are_maps()
     ensures put_here { (name : ByteList) (value : Datum) (doc : Doc)
         → value_at name (put name value doc) ≡ Some value }
     ensures put_elsewhere { (other name : ByteList) (value : Datum) (doc : Doc)
         → bytes_cmp name other ≢ Equal → value_at other (put name value doc) ≡ value_at other doc }
+    ensures without_here { (name : ByteList) (doc : Doc) → Rises doc
+        → value_at name (without name doc) ≡ None }
+    ensures without_elsewhere { (other name : ByteList) (doc : Doc)
+        → bytes_cmp name other ≢ Equal
+        → value_at other (without name doc) ≡ value_at other doc }
+    ensures cut_here { (name : ByteList) (names : List ByteList) (doc : Doc)
+        → is_named name names ≡ true
+        → value_at name (filter (λ f. is_named f.0 names) doc) ≡ value_at name doc }
+    ensures cut_elsewhere { (name : ByteList) (names : List ByteList) (doc : Doc)
+        → is_named name names ≡ false
+        → value_at name (filter (λ f. is_named f.0 names) doc) ≡ None }
     ensures over_either { (name : ByteList) (left right : Doc) → Rises right
         → value_at name (over left right) ≡ option_or (value_at name right) (value_at name left) }
     ensures same { (left right : Doc) → Rises left → Rises right
