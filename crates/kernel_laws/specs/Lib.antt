@@ -1,2 +1,3 @@
 pub mod Asks
+pub mod OneInput
 pub mod Rests

@@ -57,7 +57,9 @@ pub trait Kernel: Drop {
             (λ i. (slice_index_or (ended self.new) i true ≡ false) × waits self.new i)) }
         ensures ended { IfOk result (λ answer. ended self.new ≡ ended self.old) }
 
+        // Only an `Err` sets `failed`.
         ensures fails { IfErr result (λ _. failed self.new ≡ true) }
+        ensures lives { IfOk result (λ _. failed self.new ≡ failed self.old) }
         ensures failed { failed self.old ≡ true → IsErr result }
         ensures lean { lean ≡ true → failed self.old ≡ false → IsOk result };
 
@@ -84,6 +86,8 @@ pub trait Kernel: Drop {
         ensures ended { IfOk result (λ _. IfNone tuple
             (ended self.new ≡ slice_set (ended self.old) input true)) }
 
+        // Only an `Err` sets `failed`.
         ensures fails { IfErr result (λ _. failed self.new ≡ true) }
+        ensures lives { IfOk result (λ _. failed self.new ≡ failed self.old) }
         ensures failed { failed self.old ≡ true → IsErr result };
 }

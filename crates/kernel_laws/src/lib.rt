@@ -3,6 +3,10 @@
 
 mod ask;
 mod kernel;
+mod one_input;
+#[cfg(test)]
+mod tests;
 
 pub use ask::Ask;
 pub use kernel::Kernel;
+pub use one_input::OneInput;
