@@ -1,13 +1,15 @@
 -- The machine counts calls as quotes and parentheses alone do.
 use Rattle.std.proofs.Common.{◌≡◌, ◌⊎◌, inl, inr, ⊎_elim, ℕ, ◌+◌, ◌-◌, ◌<◌, ◌≤◌, List, []}
 use Rattle.std.proofs.Common.{◌∷◌, ◌++◌, Bool, true, false, cond, eqb, Option, Some, None, ◌&&◌}
-use Rattle.std.proofs.Common.{is_none, length, encode_utf8_all, refl, ap, sym, ◌∙◌}
-use Rattle.std.proofs.Common.{subst, arith}
+use Rattle.std.proofs.Common.{is_none, length, take, drop, encode_utf8_all, refl, ap, sym, ◌∙◌}
+use Rattle.std.proofs.Common.{subst, arith, append_assoc, take_all}
 use Rattle.std.specs.Prelude.{◌↔◌, ◌==◌}
 use Rattle.std.specs.List.{list_all}
 use Rattle.std.specs.Option.{option_and_then}
+use Rattle.std.specs.Str.Lossy.{utf8_valid_len}
 use Rattle.std.proofs.lemmas.Bool.{cases_lt, cases_Bool, false≢true, eqb-true, and_parts}
 use Rattle.std.proofs.lemmas.Bool.Decides.{nat_tests}
+use lib.Utf8.{scalars}
 use Rattle.expr_reader.specs.Letters.{is_blank, is_name_letter, begins_name, is_key_letter}
 use Rattle.expr_reader.specs.Letters.{is_special, is_name}
 use Rattle.expr_reader.specs.Tree.{CallTree, level_limit, call_limit}
@@ -15,7 +17,7 @@ use Rattle.expr_reader.specs.Machine.{Machine, start, is_over, open_call, close_
 use Rattle.expr_reader.specs.Machine.{end_call_of, end_renamed_of}
 use Rattle.expr_reader.specs.Steps.{step, stop, begin_word}
 use Rattle.expr_reader.specs.Counts.{Counts, count, count_plain, counts_from, counts_of}
-use Rattle.expr_reader.specs.Counts.{LimitsAreCounted}
+use Rattle.expr_reader.specs.Counts.{whole_characters, PassLimits, LimitsAreCounted}
 use Rattle.expr_reader.specs.declared.machine.Place.{Place}
 use Rattle.expr_reader.specs.declared.machine.Place.TheVariants.{Start, Name, AfterName, Open}
 use Rattle.expr_reader.specs.declared.machine.Place.TheVariants.{Before, Bare, Quote, Escape}
@@ -23,13 +25,15 @@ use Rattle.expr_reader.specs.declared.machine.Place.TheVariants.{AfterQuote, Aft
 use Rattle.expr_reader.specs.declared.machine.Place.TheVariants.{As, AfterAs, BeforeTo, To}
 use Rattle.expr_reader.specs.declared.machine.Place.TheVariants.{AfterTo, Close}
 use Rattle.expr_reader.specs.declared.open_calls.OpenCall.{OpenCall}
-use Rattle.expr_reader.specs.Grammar.{GoesOn, IsOver}
+use Rattle.expr_reader.specs.Grammar.{IsExpression, GoesOn, IsPlace, IsOver}
 use Rattle.expr_reader.proofs.LettersLemmas.{begins_letter}
 use Rattle.expr_reader.proofs.TakeLemmas.{go}
-use Rattle.expr_reader.proofs.TextLemmas.{encodes_front}
+use Rattle.expr_reader.proofs.BegunLemmas.{NoChar}
+use Rattle.expr_reader.proofs.TextLemmas.{encodes_front, no_char_behind}
 use Rattle.expr_reader.proofs.CompleteLemmas.{closed}
-use Rattle.expr_reader.proofs.PlaceLemmas.{expression_read, viable, not_over}
-use Rattle.expr_reader.proofs.LimitLemmas.{within, over_front}
+use Rattle.expr_reader.proofs.PlaceLemmas.{expression_read, FitsOn, shorter, not_over}
+use Rattle.expr_reader.proofs.EndLemmas.{end_place}
+use Rattle.expr_reader.proofs.LimitLemmas.{within, over_front, longest_of, parts}
 
 -- ---- counts of a machine
 
@@ -275,8 +279,7 @@ front_taken cs (more, tree, x) =
     go_front cs split.0 start (closed tree) (ap (go start) (sym split.1) ∙ r.taken)
 
 -- a machine is over a limit where it counts more
-over_counts : (m : Machine) → is_over m ≡ true
-    → (level_limit < m.deepest) ⊎ (call_limit < m.begun)
+over_counts : (m : Machine) → is_over m ≡ true → PassLimits (shown m)
 over_counts m h = ⊎_elim (λ (deep : level_limit < m.deepest). inl deep)
     (λ (low : m.deepest ≤ level_limit). ⊎_elim
     (λ (many : call_limit < m.begun). inr many)
@@ -285,8 +288,7 @@ over_counts m h = ⊎_elim (λ (deep : level_limit < m.deepest). inl deep)
     (cases_lt level_limit m.deepest)
 
 -- and there alone
-counts_over : (m : Machine) → (level_limit < m.deepest) ⊎ (call_limit < m.begun)
-    → is_over m ≡ true
+counts_over : (m : Machine) → PassLimits (shown m) → is_over m ≡ true
 counts_over m h = ⊎_elim (λ (large : is_over m ≡ true). large)
     (λ (small : is_over m ≡ false).
     let k = not_over m small in
@@ -294,18 +296,44 @@ counts_over m h = ⊎_elim (λ (large : is_over m ≡ true). large)
     (λ (many : call_limit < m.begun). omega (arith, k.1)) h))
     (cases_Bool (is_over m))
 
--- the limits are those of the counts
-pub limits_are_counted : LimitsAreCounted
-limits_are_counted cs s goes =
-    let t = front_taken cs goes in
+-- bytes that go on are all before their place
+front_at : (bytes : List ℕ) (at : ℕ) → IsPlace bytes at → GoesOn bytes → take at bytes ≡ bytes
+front_at bytes at p goes =
+    let whole : take (length bytes) bytes ≡ bytes = take_all (length bytes) bytes (omega arith) in
+    let le = longest_of bytes at (length bytes) p (omega arith) (subst GoesOn (sym whole) goes) in
+    take_all at bytes (omega (arith, le))
+
+-- what is over the limits is so with more bytes
+over_more : (front more : List ℕ) → IsOver front → IsOver (front ++ more)
+over_more front more over others tree x keeps =
+    over (more ++ others) tree
+    (subst (λ t. IsExpression t tree) (append_assoc front more others) x) keeps
+
+-- characters and a tail that begins none, with which some expression begins, are over the limits
+-- exactly where the counts of the characters pass them
+over_counted : (cs tail : List ℕ) → scalars cs ≡ true → NoChar tail
+    → GoesOn (encode_utf8_all cs ++ tail)
+    → IsOver (encode_utf8_all cs ++ tail) ↔ PassLimits (counts_of cs)
+over_counted cs tail s none goes =
+    let t = front_taken cs (shorter (encode_utf8_all cs) tail goes) in
     let m = t.0 in
     let counts : counts_of cs ≡ shown m = go_counted cs start m t.1 in
-    subst (λ (n : Counts). IsOver (encode_utf8_all cs) ↔
-    ((level_limit < n.deepest) ⊎ (call_limit < n.begun))) (sym counts) (
+    let end = end_place cs m tail s t.1 none in
+    let bytes = encode_utf8_all cs ++ tail in
+    subst (λ (n : Counts). IsOver bytes ↔ PassLimits n) (sym counts) (
       λ over. ⊎_elim (λ (large : is_over m ≡ true). over_counts m large)
           (λ (small : is_over m ≡ false).
-          let f = (viable cs m s t.1).1 small in
+          let f = subst FitsOn (front_at bytes _ end.place goes) (end.fits small) in
           absurd (over f.0 f.1 f.2 f.3))
           (cases_Bool (is_over m)),
-      λ k. over_front cs m t.1 (counts_over m k),
+      λ k. over_more (encode_utf8_all cs) tail (over_front cs m t.1 (counts_over m k)),
     )
+
+-- the limits are those of the counts
+pub limits_are_counted : LimitsAreCounted
+limits_are_counted front goes =
+    let p = parts front in
+    let cs = whole_characters front in
+    subst (λ t. IsOver t ↔ PassLimits (counts_of cs)) p.whole
+    (over_counted cs (drop (utf8_valid_len front) front) p.are (no_char_behind front)
+    (subst GoesOn (sym p.whole) goes))

@@ -1,3 +1,4 @@
+pub mod AgreementLemmas
 pub mod BegunLemmas
 pub mod CallLemmas
 pub mod CompleteLemmas

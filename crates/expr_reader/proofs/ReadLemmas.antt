@@ -49,7 +49,7 @@ abbrev pub Told : List ℕ → Result CallTree ExprFault → Type 0
 Told bytes (Ok tree) = IsExpression bytes tree × KeepsLimits tree
 Told bytes (Err TooLarge) = IsTooLarge bytes
 Told bytes (Err (Syntax at)) = IsPlace bytes at × FitsOn (take at bytes)
-Told bytes (Err OutOfMemory) = Unit {0}
+Told bytes (Err OutOfMemory) = ⊥
 
 -- the test for the closing place
 close_of : (q : Place) → is_close q ≡ true → q ≡ Close
@@ -212,7 +212,7 @@ fault_is bytes text e small front h =
 -- ---- an answer
 
 -- too many bytes are too large
-large_read : (bytes : List ℕ) → byte_limit < length bytes → read_of bytes ≡ Err TooLarge
+pub large_read : (bytes : List ℕ) → byte_limit < length bytes → read_of bytes ≡ Err TooLarge
 large_read bytes h =
     let large : nat_lt byte_limit (length bytes) ≡ true = grind (arith, nat_tests) in
     ap (λ b. cond b (Err TooLarge) (read_front (utf8_valid_len bytes) bytes)) large
@@ -239,7 +239,7 @@ answers_only bytes (Err e) h = tt
 -- bytes that are an expression within the limits, or begin one, are not too large
 module _ (bytes : List ℕ) (small : length bytes ≤ byte_limit) where
   -- those that are one
-  whole_fits : (tree : CallTree) → IsExpression bytes tree → KeepsLimits tree
+  pub whole_fits : (tree : CallTree) → IsExpression bytes tree → KeepsLimits tree
       → ¬ (IsTooLarge bytes)
   whole_fits tree x keeps large = ⊎_elim
       (λ (long : byte_limit < length bytes). absurd (omega arith))
@@ -249,7 +249,7 @@ module _ (bytes : List ℕ) (small : length bytes ≤ byte_limit) where
       large
 
   -- those whose longest front begins one
-  place_fits : (at : ℕ) → IsPlace bytes at → FitsOn (take at bytes) → ¬ (IsTooLarge bytes)
+  pub place_fits : (at : ℕ) → IsPlace bytes at → FitsOn (take at bytes) → ¬ (IsTooLarge bytes)
   place_fits at p (more, tree, x, keeps) large = ⊎_elim
       (λ (long : byte_limit < length bytes). absurd (omega arith))
       (λ (o : (at : ℕ) × IsPlace bytes at × IsOver (take at bytes)).

@@ -1,8 +1,9 @@
 -- The calls that characters begin, counted by quotes and parentheses alone (own).
-use Rattle.std.specs.Prelude.{◌≡◌, ◌⊎◌, ◌↔◌, ℕ, ◌+◌, ◌-◌, ◌<◌, max, List, [], ◌∷◌, Bool, true}
-use Rattle.std.specs.Prelude.{false, ◌==◌, if◌then◌else◌, encode_utf8_all}
-use Rattle.std.specs.Str.{all_scalars}
-use Rattle.expr_reader.specs.Tree.{level_limit, call_limit}
+use Rattle.std.specs.Prelude.{◌⊎◌, ◌↔◌, ℕ, ◌+◌, ◌-◌, ◌<◌, max, List, [], ◌∷◌, Bool, true}
+use Rattle.std.specs.Prelude.{false, ◌==◌, if◌then◌else◌, take}
+use Rattle.std.specs.Str.{chars}
+use Rattle.std.specs.Str.Lossy.{utf8_valid_len}
+use Rattle.expr_reader.specs.Tree.{ByteList, level_limit, call_limit}
 use Rattle.expr_reader.specs.Grammar.{GoesOn, IsOver}
 
 -- whether a quoted text goes on, and a backslash stands last in it; how many calls are begun and
@@ -50,9 +51,16 @@ counts_from n (c ∷ cs) = counts_from (count n c) cs
 abbrev pub counts_of : List ℕ → Counts
 counts_of = counts_from no_counts
 
--- A front of whole characters with which some expression begins is over the limits exactly where
--- more calls than may be are begun and not closed at some place of it, or begun in it.
+-- the whole characters of bytes: those of the longest front that is text
+abbrev pub whole_characters : ByteList → List ℕ
+whole_characters bytes = chars (take (utf8_valid_len bytes) bytes)
+
+-- more calls than may be are begun and not closed at some place, or begun at all
+abbrev pub PassLimits : Counts → Type 0
+PassLimits n = (level_limit < n.deepest) ⊎ (call_limit < n.begun)
+
+-- A front with which some expression begins is over the limits exactly where the counts of its
+-- whole characters pass them.
 abbrev pub LimitsAreCounted : Type 0
-LimitsAreCounted = (cs : List ℕ) → all_scalars cs ≡ true → GoesOn (encode_utf8_all cs)
-    → IsOver (encode_utf8_all cs) ↔
-    ((level_limit < (counts_of cs).deepest) ⊎ (call_limit < (counts_of cs).begun))
+LimitsAreCounted = (front : ByteList) → GoesOn front
+    → IsOver front ↔ PassLimits (counts_of (whole_characters front))

@@ -1,4 +1,4 @@
--- Each argument is smaller than the call that holds it, which recursions over calls rest on.
+-- Each argument is smaller than the call that holds it, which recursions over calls rest on (own).
 use Rattle.std.specs.Prelude.{◌≤◌, max, List, [], ◌∷◌}
 use Rattle.std.proofs.Common.{arith}
 use denote.Param.Weighed.{most}

@@ -1,4 +1,4 @@
--- The trees that the program's calls and arguments stand for.
+-- The trees that the program's calls and arguments stand for (own).
 use Rattle.std.specs.Prelude.{List, map, Option, Some, None}
 use Rattle.expr_reader.specs.Tree.{ByteList, CallTree, call, ArgTree, plain, named, named_call, sub}
 use Rattle.expr_reader.specs.Tree.{renamed, trees_of}

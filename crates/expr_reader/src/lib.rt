@@ -17,4 +17,4 @@ mod words;
 pub use call::{Arg, ArgValue, Args, Call, Word};
 pub use fault::ExprFault;
 pub use limits::limits_are_counted;
-pub use reader::read_expr;
+pub use reader::{read_expr, readings_agree};

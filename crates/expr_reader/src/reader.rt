@@ -5,6 +5,7 @@ ghost use Rattle.std.specs.Str.{chars};
 ghost use Rattle.std.specs.Str.Lossy.{utf8_valid_len};
 ghost use Rattle.expr_reader.specs.Tree.{CallTree, KeepsLimits};
 ghost use Rattle.expr_reader.specs.Views.{call_tree};
+ghost use Rattle.expr_reader.specs.Agreement.{Agrees};
 ghost use Rattle.expr_reader.specs.Grammar.{IsExpression, IsPlace, byte_limit};
 ghost use Rattle.expr_reader.specs.Machine.{machine, start};
 ghost use Rattle.expr_reader.specs.Reading.{run, read_of};
@@ -92,3 +93,9 @@ pub fn read_expr(alloc: Global, bytes: &[u8]) -> Result<Call, ExprFault>
     }
     read(alloc, bytes)
 }
+
+/// The computed reading is what the bytes say within the limits, and its faults are theirs: for all
+/// bytes it agrees with the grammar. No memory comes into it.
+pub fn readings_agree()
+    ensures { Agrees read_of }
+{}

@@ -1,3 +1,4 @@
+pub mod AgreementLemmas
 pub mod ClassLemmas
 pub mod ClauseLemmas
 pub mod CompleteLemmas

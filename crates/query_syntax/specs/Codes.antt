@@ -1,4 +1,4 @@
--- Trees of clauses as lists of tokens, by which a proof tells them apart.
+-- Trees of clauses as lists of tokens, by which a proof tells them apart (own).
 use Rattle.std.specs.Prelude.{ℕ, zero, suc, ◌≡◌, List, [], ◌∷◌, refl}
 use Rattle.std.proofs.Common.{ap, ◌∙◌}
 use Rattle.std.specs.Coded.{Coded, code_by, coded×, coded_ℕ, coded_bool, coded_list, coded_option}

@@ -1,4 +1,4 @@
--- Each clause is smaller than the list that holds it, which recursions over clauses rest on.
+-- Each clause is smaller than the list that holds it, which recursions over clauses rest on (own).
 use Rattle.std.specs.Prelude.{◌≤◌, max, List, [], ◌∷◌}
 use Rattle.std.proofs.Common.{arith}
 use denote.Param.Weighed.{most}

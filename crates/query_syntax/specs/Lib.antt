@@ -1,3 +1,4 @@
+pub mod Agreement
 pub mod Codes
 pub mod Falls
 pub mod Fault

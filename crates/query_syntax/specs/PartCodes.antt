@@ -1,4 +1,4 @@
--- Tests and roles as numbers, texts and bounds, by which a proof tells them apart.
+-- Tests and roles as numbers, texts and bounds, by which a proof tells them apart (own).
 use Rattle.std.specs.Prelude.{ℕ, zero, suc, ◌≡◌, [], Bool, false, Option, None, refl}
 use Rattle.std.specs.Coded.{Coded, code_by, coded×, coded_ℕ, coded_bool, coded_list, coded_option}
 use Rattle.tuple_values.specs.Document.{ByteList}

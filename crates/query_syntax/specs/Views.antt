@@ -1,4 +1,4 @@
--- The trees that the program's clauses stand for.
+-- The trees that the program's clauses stand for (own).
 use Rattle.std.specs.Prelude.{List, map}
 use Rattle.query_syntax.specs.Tree.{WhatTree, everything, on_field, nested, ClauseTree, trees_of}
 use Rattle.query_syntax.specs.declared.query.Clause.{Clause}

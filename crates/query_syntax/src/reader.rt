@@ -3,6 +3,7 @@ ghost use Rattle.std.specs.Prelude.{◌≡◌, ◌↔◌, IfOk, IfErr, OnOk, Som
 ghost use Rattle.tuple_values.specs.Document.{ByteList, Doc};
 ghost use Rattle.query_syntax.specs.Tree.{ClauseTree};
 ghost use Rattle.query_syntax.specs.Views.{what_tree};
+ghost use Rattle.query_syntax.specs.Agreement.{Agrees};
 ghost use Rattle.query_syntax.specs.Grammar.{IsQuery, IsPlace, one_clause};
 ghost use Rattle.query_syntax.specs.Machine.{machine, start};
 ghost use Rattle.query_syntax.specs.Reading.{query_of, read_of, Ends, EndsIn};
@@ -80,8 +81,10 @@ pub fn read_query(alloc: Global, text: &str) -> Result<Query, QueryFault>
     read(alloc, text)
 }
 
-/// The computed reading of a text is what the text says: the two definitions of a query agree.
+/// The computed readings of a text are what the text says, and the place is that of its fault: for
+/// all bytes they agree with the grammar. No memory comes into it.
 pub fn readings_agree()
-    ensures { (bytes : ByteList) (clauses : List ClauseTree)
+    ensures clauses { (bytes : ByteList) (clauses : List ClauseTree)
         → (query_of bytes ≡ Some clauses) ↔ IsQuery bytes clauses }
+    ensures reading { Agrees read_of }
 {}

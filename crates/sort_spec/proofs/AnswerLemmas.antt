@@ -1,5 +1,5 @@
 -- What the readers answer is what the texts say.
-use Rattle.std.proofs.Common.{◌≡◌, refl, sym, ◌∙◌, ap, subst, Result, Ok, Err, IfOk, IfErr, ◌↔◌}
+use Rattle.std.proofs.Common.{◌≡◌, refl, ◌∙◌, subst, Result, Ok, Err, IfOk, IfErr}
 use Rattle.tuple_values.specs.Document.{ByteList}
 use Rattle.sort_spec.specs.Fault.{IfPlaced, Answers}
 use Rattle.sort_spec.specs.Grammar.{IsReadable, IsPlace, IsList}
@@ -68,13 +68,3 @@ module _ {V : Type 0} (Says : ByteList → V → Type 0) (bytes : ByteList) wher
   answers_place (stuck other) right (Err (BadSort at)) is =
       let same : other ≡ at = cc in
       let P : _ → Type 0 = λ n. IsPlace Says bytes n in subst P same right.1
-
-  -- the reading says a value exactly where the bytes do
-  pub said_by : (reading : Reading V) → IsRight Says bytes reading → (value : V)
-      → (reading ≡ said value) ↔ Says bytes value
-  said_by (said other) right value = (
-    λ is. let same : other ≡ value = cc in
-        let P : V → Type 0 = λ v. Says bytes v in subst P same right.0,
-    λ says. ap said (sym (right.1 value says)),
-  )
-  said_by (stuck at) right value = (λ is. absurd (cc), λ says. absurd (right.0 value says))

@@ -1,3 +1,4 @@
+pub mod AgreementLemmas
 pub mod AnswerLemmas
 pub mod ByteLemmas
 pub mod CommaLemmas

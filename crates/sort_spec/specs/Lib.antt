@@ -1,3 +1,4 @@
+pub mod Agreement
 pub mod Fault
 pub mod Grammar
 pub mod Reading

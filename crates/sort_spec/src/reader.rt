@@ -1,10 +1,11 @@
 // The readers of whole texts.
-ghost use Rattle.std.specs.Prelude.{◌≡◌, ◌+◌, ◌<◌, ◌^◌, ◌↔◌, ◌≤◌, length, List, IfOk, IfErr, OnOk};
+ghost use Rattle.std.specs.Prelude.{◌≡◌, ◌+◌, ◌<◌, ◌^◌, ◌≤◌, length, List, IfOk, IfErr, OnOk};
 ghost use Rattle.tuple_values.specs.Document.{ByteList};
+ghost use Rattle.sort_spec.specs.Agreement.{Agree};
 ghost use Rattle.sort_spec.specs.Fault.{IfPlaced, Answers};
 ghost use Rattle.sort_spec.specs.Grammar.{IsReadable, IsPlace};
 ghost use Rattle.sort_spec.specs.Texts.{IsSort, IsOn, IsNames, once};
-ghost use Rattle.sort_spec.specs.Reading.{said, behind, listed, sort_of, on_of, names_of};
+ghost use Rattle.sort_spec.specs.Reading.{behind, listed, sort_of, on_of, names_of};
 ghost use Rattle.sort_spec.specs.declared.term.SortTerm.{SortTerm};
 ghost use Rattle.sort_spec.specs.declared.pair.OnPair.{OnPair};
 
@@ -129,12 +130,10 @@ pub fn read_names(alloc: Global, text: &str) -> Result<FieldList, SortFault>
     names_in(alloc, text)
 }
 
-/// The computed readings are what the texts say: the two definitions of each text agree.
+/// The computed readings are what the texts say, and their places are those of the faults: for all
+/// bytes the two definitions of each text agree. No memory comes into it.
 pub fn readings_agree()
-    ensures sorts { (bytes : ByteList) (terms : List SortTerm)
-        → (sort_of bytes ≡ said terms) ↔ IsSort bytes terms }
-    ensures pairs { (bytes : ByteList) (pairs : List OnPair)
-        → (on_of bytes ≡ said pairs) ↔ IsOn bytes pairs }
-    ensures names { (bytes : ByteList) (names : List ByteList)
-        → (names_of bytes ≡ said names) ↔ IsNames bytes names }
+    ensures sorts { Agree IsSort sort_of }
+    ensures pairs { Agree IsOn on_of }
+    ensures names { Agree IsNames names_of }
 {}
