@@ -1,8 +1,9 @@
 -- Which handler and which collection a path names (Solr Reference Guide, "Streaming Expressions"
 -- and "Indexing with Update Handlers"; that a path is compared byte by byte is own).
-use Rattle.std.specs.Prelude.{ℕ, ◌||◌, Bool, List, drop, Option, None, Some, option_map, bytes_eq, nat_eq, codes, if◌then◌else◌}
-use Rattle.std.specs.List.{list_any, starts_with}
+use Rattle.std.specs.Prelude.{ℕ, ◌||◌, List, drop, Option, None, Some, option_map, bytes_eq, nat_eq, codes, if◌then◌else◌}
+use Rattle.std.specs.List.{starts_with}
 use Rattle.form_urlencoded.specs.Form.{split_once}
+use Rattle.tuple_values.specs.Collections.{is_known}
 use Rattle.tuple_values.specs.declared.names.NameShards.{NameShards}
 use Rattle.form_request.specs.declared.request.Handler.{Handler}
 use Rattle.form_request.specs.declared.request.Handler.TheVariants.{Stream, Update}
@@ -13,10 +14,6 @@ handler_of tail =
     if bytes_eq tail (codes "stream") then Some Stream
     else (if bytes_eq tail (codes "update") || bytes_eq tail (codes "update/json")
     || bytes_eq tail (codes "update/json/docs") then Some Update else None)
-
--- the collection is one of those that are named
-abbrev pub is_known : List ℕ → List NameShards → Bool
-is_known collection names = list_any (λ n. bytes_eq n.name collection) names
 
 -- the handler and the collection that the end of a path names: the collection goes up to the
 -- first slash, and the handler stands behind it

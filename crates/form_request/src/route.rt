@@ -1,10 +1,10 @@
 // Which handler and which collection a path names.
-ghost use Rattle.std.specs.Prelude.{◌≡◌, bytes_eq, option_map, is_some, IfSome};
+ghost use Rattle.std.specs.Prelude.{◌≡◌, bytes_eq, option_map};
 ghost use Rattle.form_urlencoded.specs.Form as form;
-ghost use Rattle.form_request.specs.Routes.{handler_of, is_known, route};
+ghost use Rattle.form_request.specs.Routes.{handler_of, route};
 
 use crate::Handler;
-use tuple_values::{NameShards, Names, Text};
+use tuple_values::{Names, Text};
 
 /// What stands before the first such byte, and what behind it.
 pub fn split_once(bytes: &[u8], separator: u8) -> (&[u8], &[u8])
@@ -32,9 +32,9 @@ pub fn read_route<'a>(names: &'a Names, path: &[u8]) -> Option<(Handler, &'a Tex
         return None;
     }
     let (collection, tail) = split_once(&path[6..], b'/');
-    let name = known_name(names.as_slice(), collection)?;
+    let entry = names.find(collection)?;
     let handler = read_handler(tail)?;
-    Some((handler, name))
+    Some((handler, &entry.name))
 }
 
 fn read_handler(tail: &[u8]) -> Option<Handler>
@@ -48,19 +48,6 @@ fn read_handler(tail: &[u8]) -> Option<Handler>
         || is_same(tail, b"update/json/docs")
     {
         return Some(Handler::Update);
-    }
-    None
-}
-
-// The name that is the collection's.
-fn known_name<'a>(names: &'a [NameShards], collection: &[u8]) -> Option<&'a Text>
-    ensures found { IfSome result (λ name. name.now ≡ collection.now) }
-    ensures variant { is_some result ≡ is_known collection.now names.now }
-{
-    for name in names {
-        if is_same(name.name.as_str().as_bytes(), collection) {
-            return Some(&name.name);
-        }
     }
     None
 }

@@ -17,5 +17,6 @@ mod writes;
 pub use fault::JsonFault;
 pub use laws::bodies_are_read_in_order;
 pub use replies::{EndTuple, error_text, result_set_text, update_text};
+pub use tuple_values::{Write, Writes};
 pub use tuples::tuple_text;
 pub use update::{Update, read_update};
