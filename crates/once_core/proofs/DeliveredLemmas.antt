@@ -1,6 +1,6 @@
 -- Over histories that keep the law a topic's destination has each current document of its source,
 -- in its version, once.
-use Rattle.std.proofs.Common.{◌≡◌, ℕ, ◌+◌, ◌<◌, ◌≤◌, ◌||◌, ◌&&◌, Bool, true, false, cond, List, [], ◌∷◌, ◌++◌, Some, slice_index, refl, sym, ap, subst, ◌∙◌, arith, bytes_eq, inl, inr, Contains}
+use Rattle.std.proofs.Common.{◌≡◌, ℕ, ◌+◌, ◌<◌, ◌≤◌, ◌≢◌, ◌||◌, ◌&&◌, Bool, true, false, cond, List, [], ◌∷◌, ◌++◌, Some, slice_index, refl, sym, ap, subst, ◌∙◌, arith, bytes_eq, inl, inr, Contains}
 use Rattle.std.proofs.lemmas.Slice.Eq.{bytes_eq-Decides}
 use Rattle.std.proofs.lemmas.List.Elements.{Contains-append_right}
 use Rattle.std.specs.List.{AllByRecursion}
@@ -26,7 +26,7 @@ use Rattle.once_core.specs.declared.world.Histories.{Histories}
 use Rattle.once_core.specs.Cells.{history_at, cell_of, shard_history, home_history}
 use Rattle.once_core.specs.Law.{takes, IsFitAt, IsFitCell, IsDelivery, IsTrueKind, AreTrue, IsSent, AreSent, IsLaw}
 use Rattle.once_core.specs.Delivered.{is_only_from, IsOnlyFrom, Stands, NoneIsLost, IsDelivered}
-use Rattle.once_core.proofs.PlaceLemmas.{place-cell, current-here}
+use Rattle.once_core.proofs.PlaceLemmas.{place-cell, sents-elsewhere, current-here}
 use Rattle.once_core.proofs.CurrentLemmas.{IsLast, id_with_version, write-committed, current-last, latest-contains}
 
 -- the last of some numbers
@@ -344,7 +344,25 @@ none_lost names hs law key b dest bound to only shard below =
       all ps here.1 last.1 sent.1,
     )
 
+-- over histories that keep the law no shard but the home of an id has a delivery of it
+sents_home : (names : List NameShards) (hs : Histories) → IsLaw names hs → (src dest : ByteList)
+    (shard : ℕ) (id : ByteList) → shard < shards_of names dest
+    → shard ≢ shard_of (shards_of names dest) id
+    → sents src id (shard_history names hs dest shard) ≡ []
+unfolding IsFitCell
+sents_home names hs law src dest shard id below away =
+    let h : History = shard_history names hs dest shard in
+    let place = place-cell names dest shard below in
+    let fit : IsFit (shards_of names dest) shard h =
+    subst (λ o. IsFitAt o h) place.1 (law.fit (cell_of names dest shard)) in
+    sents-elsewhere src id (shards_of names dest) shard h fit away
+
 -- over histories that keep the law each topic is delivered
 pub law_delivers : (names : List NameShards) (hs : Histories) → IsLaw names hs → IsDelivered names hs
-law_delivers names hs law key b dest bound to only =
-    (λ shard id. law.rising (cell_of names dest shard) b.src id, none_lost names hs law key b dest bound to only)
+law_delivers names hs law key b dest bound to only = (
+  record {
+    at_home = sents_home names hs law b.src dest;
+    rising = λ shard id. law.rising (cell_of names dest shard) b.src id;
+  },
+  none_lost names hs law key b dest bound to only,
+)

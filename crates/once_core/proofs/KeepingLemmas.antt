@@ -30,7 +30,7 @@ use Rattle.once_core.specs.Worlds.{AreAllowed, grown, noted, after_event, next, 
 use Rattle.once_core.proofs.GrowthLemmas.{Grows, top_up, true_up, sent_up, sent_join, sent_none, covered_up, covered_still, grown_here, grown_other, grown_grows, noted_grows, seen_grows}
 
 -- what may stand at a place may stand there together
-fit_append : (place : Option Place) (xs ys : List Entry) → IsFitAt place xs → IsFitAt place ys → IsFitAt place (xs ++ ys)
+pub fit_append : (place : Option Place) (xs ys : List Entry) → IsFitAt place xs → IsFitAt place ys → IsFitAt place (xs ++ ys)
 unfolding IsFit
 fit_append None xs ys a b = ap (λ l. l ++ ys) a ∙ b
 fit_append (Some p) xs ys a b = each_append (λ e. is_fit p.shards p.shard e.kind ≡ true) xs ys a b
@@ -195,7 +195,7 @@ covers_stored names seen hs actor k u g law m same c shard bound below =
     }
 
 -- a topic's binding has as many initial numbers as its source has shards
-counted_init : (names : List NameShards) (before : Book) (k : TopicKey) (b : Binding) → AllByRecursion (IsFitEntry names) before
+pub counted_init : (names : List NameShards) (before : Book) (k : TopicKey) (b : Binding) → AllByRecursion (IsFitEntry names) before
     → binding_of k before ≡ Some b → length b.init ≡ shards_of names b.src
 unfolding binding_of
 counted_init names [] k b fit bound = absurd (cc)

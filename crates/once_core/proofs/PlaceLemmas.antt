@@ -1,7 +1,8 @@
 -- Where cells are, and that what stands in a cell belongs there.
-use Rattle.std.proofs.Common.{◌≡◌, ℕ, ◌+◌, ◌-◌, ◌<◌, ◌&&◌, Bool, true, false, cond, ltb, eqb, List, [], ◌∷◌, ◌++◌, Option, Some, None, refl, ap, subst, ◌∙◌, arith, bytes_eq}
+use Rattle.std.proofs.Common.{◌≡◌, ℕ, ◌+◌, ◌-◌, ◌<◌, ◌≢◌, ◌&&◌, Bool, true, false, cond, ltb, eqb, List, [], ◌∷◌, ◌++◌, Option, Some, None, refl, sym, ap, subst, ◌∙◌, arith, bytes_eq}
 use Rattle.std.proofs.lemmas.Bool.{lt-ltb, eqb-true}
 use Rattle.std.proofs.lemmas.Bool.Decides.{nat_tests}
+use Rattle.std.proofs.lemmas.Slice.Eq.{bytes_eq-Decides}
 use Rattle.std.specs.List.{AllByRecursion}
 use Rattle.tuple_values.specs.Document.{ByteList, Doc}
 use Rattle.tuple_values.specs.Keys.{shard_of}
@@ -10,6 +11,7 @@ use Rattle.shard_versions.specs.Documents.{id_of, with_version}
 use Rattle.shard_versions.specs.declared.entry.Kind.{Kind}
 use Rattle.shard_versions.specs.declared.entry.Kind.TheVariants.{Put, Del, Sent, Mark}
 use Rattle.shard_versions.specs.Histories.{History, Slot, slots, slots_after, slot_of, version_after, settled, committed, writes_id, kept, latest, current}
+use Rattle.shard_versions.specs.Deliveries.{sents, sent_version}
 use Rattle.shard_versions.specs.Fitness.{IsFit, is_fit, is_storable_kind}
 use Rattle.shard_versions.proofs.ListLemmas.{each_append, each_left}
 use Rattle.shard_versions.proofs.VersionLemmas.{settled-begins}
@@ -48,24 +50,54 @@ abbrev pub IsHere : ℕ → ℕ → Option Doc → Type 0
 IsHere shards shard None = Unit {0}
 IsHere shards shard (Some doc) = shard_of shards (id_of doc) ≡ shard
 
+-- the document of an entry that fits a shard belongs there
+routed : (shards shard : ℕ) (doc : Doc) (a : Bool)
+    → (a && eqb (shard_of shards (id_of doc)) shard) ≡ true → shard_of shards (id_of doc) ≡ shard
+routed shards shard doc a e =
+    eqb-true (shard_of shards (id_of doc)) shard (second a (eqb (shard_of shards (id_of doc)) shard) e)
+  where
+    second : (a b : Bool) → (a && b) ≡ true → b ≡ true
+    second true b e = e
+    second false b e = absurd (cc)
+
+-- what fits a shard delivers nothing under an id that routes to another one
+pub sents-elsewhere : (src id : ByteList) (shards shard : ℕ) (h : History) → IsFit shards shard h
+    → shard ≢ shard_of shards id → sents src id h ≡ []
+unfolding IsFit sents
+sents-elsewhere src id shards shard [] fit away = refl
+sents-elsewhere src id shards shard (e ∷ h) fit away =
+    go e.kind fit.0 (sents-elsewhere src id shards shard h fit.1 away)
+  where
+    go : (k : Kind) → is_fit shards shard k ≡ true → sents src id h ≡ []
+        → sent_version src id k ++ sents src id h ≡ []
+    go (Put doc) f none = none
+    go (Del other) f none = none
+    go Mark f none = none
+    go (Sent from v doc) f none = turn (bytes_eq src from) (bytes_eq id (id_of doc)) refl
+      where
+        here : bytes_eq id (id_of doc) ≡ true → ⊥
+        here same =
+            let is : id ≡ id_of doc = (bytes_eq-Decides id (id_of doc)).0 same in
+            let at : shard_of shards (id_of doc) ≡ shard = routed shards shard doc (is_storable_kind (Sent from v doc)) f in
+            away (sym (ap (shard_of shards) is ∙ at))
+
+        turn : (a b : Bool) → bytes_eq id (id_of doc) ≡ b
+            → cond (a && b) (v ∷ []) [] ++ sents src id h ≡ []
+        turn false b e = none
+        turn true false e = none
+        turn true true e = absurd (here e)
+
 -- the documents of what fits a shard belong there
 slots_here : (shards shard last : ℕ) (h : History) → IsFit shards shard h → AllByRecursion (λ s. IsHere shards shard s.left) (slots_after last h)
 unfolding IsFit slots_after
 slots_here shards shard last [] fit = tt
 slots_here shards shard last (e ∷ h) fit = go e.kind fit.0 (λ v. slots_here shards shard v h fit.1)
   where
-    second : (a b : Bool) → (a && b) ≡ true → b ≡ true
-    second true b e = e
-    second false b e = absurd (cc)
-
-    routed : (doc : Doc) (a : Bool) → (a && eqb (shard_of shards (id_of doc)) shard) ≡ true → shard_of shards (id_of doc) ≡ shard
-    routed doc a e = eqb-true (shard_of shards (id_of doc)) shard (second a (eqb (shard_of shards (id_of doc)) shard) e)
-
     go : (k : Kind) → is_fit shards shard k ≡ true → ((v : ℕ) → AllByRecursion (λ s. IsHere shards shard s.left) (slots_after v h))
         → AllByRecursion (λ s. IsHere shards shard s.left) (slot_of (version_after last k) k ++ slots_after (version_after last k) h)
-    go (Put doc) f more = (routed doc (is_storable_kind (Put doc)) f, more (last + 1))
+    go (Put doc) f more = (routed shards shard doc (is_storable_kind (Put doc)) f, more (last + 1))
     go (Del id) f more = (tt, more (last + 1))
-    go (Sent src v doc) f more = (routed doc (is_storable_kind (Sent src v doc)) f, more (last + 1))
+    go (Sent src v doc) f more = (routed shards shard doc (is_storable_kind (Sent src v doc)) f, more (last + 1))
     go Mark f more = more last
 
 -- so do those that are read of such writes

@@ -1,8 +1,9 @@
 -- The promise of delivery, over the histories alone (own).
-use Rattle.std.specs.Prelude.{ℕ, ◌≡◌, ◌<◌, ◌≤◌, Bool, true, false, List, slice_index, Some}
+use Rattle.std.specs.Prelude.{ℕ, ◌≡◌, ◌≢◌, ◌<◌, ◌≤◌, Bool, true, false, List, [], slice_index, Some}
 use Rattle.std.specs.Prelude.{Contains, bytes_eq}
 use Rattle.std.specs.List.{AllByRecursion}
 use Rattle.tuple_values.specs.Document.{ByteList, Doc}
+use Rattle.tuple_values.specs.Keys.{shard_of}
 use Rattle.tuple_values.specs.declared.names.NameShards.{NameShards}
 use Rattle.shard_versions.specs.Documents.{id_of, with_version, IsFrom}
 use Rattle.shard_versions.specs.Histories.{History, current}
@@ -40,10 +41,15 @@ pub record Stands (src : ByteList) (p : ℕ × Doc) (h : History) : Type 0 where
   pub read_as : p.1 ≡ with_version p.0 doc
   pub is_from : IsFrom delivered src p.0 doc
 
--- the versions of one id that are delivered from the source rise, so each comes at most once
-abbrev pub ComesOnce : List NameShards → Histories → ByteList → ByteList → Type 0
-ComesOnce names hs src dest =
-    (shard : ℕ) (id : ByteList) → IsRising (sents src id (shard_history names hs dest shard))
+-- no shard of the destination but the one to which an id routes has a delivery of it from the
+-- source, and there its versions rise, so in the whole destination each comes at most once
+pub record ComesOnce (names : List NameShards) (hs : Histories) (src dest : ByteList)
+    : Type 0 where
+  pub at_home : (shard : ℕ) (id : ByteList) → shard < shards_of names dest
+      → shard ≢ shard_of (shards_of names dest) id
+      → sents src id (shard_history names hs dest shard) ≡ []
+  pub rising : (shard : ℕ) (id : ByteList)
+      → IsRising (sents src id (shard_history names hs dest shard))
 
 -- each current document of the source's shard that the topic takes, above the initial checkpoint
 -- and up to the stored one, stands in the destination in its version

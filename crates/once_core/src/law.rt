@@ -15,8 +15,9 @@ pub fn law_holds()
 {}
 
 /// Over all histories that keep the law: while nothing else writes a topic's destination, each
-/// version is delivered there at most once, rising per id, and each current document that the
-/// topic takes, between its initial and its stored checkpoint, is current there in that version.
+/// version is delivered at most once in all its shards, rising per id, and each current document
+/// that the topic takes, between its initial and its stored checkpoint, is current there in that
+/// version.
 pub fn delivery_holds()
     ensures { (names : List NameShards) (hs : Histories) → IsLaw names hs → IsDelivered names hs }
 {}

@@ -1,4 +1,4 @@
--- When the links and heads of a chain are those of its tags.
+-- When the links and heads of a chain are those of its tags (own).
 use Rattle.std.specs.Prelude.{ℕ, ◌-◌, ◌≡◌, ◌<◌, ◌==◌, min, List, length, map, take, slice_index_or, unwrap_or, Vec, vec_len, vec_capacity, nat_eq}
 use Rattle.std.specs.HashMap.{HashMap, get, spare}
 use Rattle.shard_versions.specs.Places.{last_where, Tagged}

@@ -1,4 +1,4 @@
--- The last place in a list of what passes a test.
+-- The last place in a list of what passes a test (own).
 use Rattle.std.specs.Prelude.{ℕ, zero, suc, Bool, List, [], ◌∷◌, if◌then◌else◌}
 
 -- one more than the last place, of an item that passes or not and of those behind it

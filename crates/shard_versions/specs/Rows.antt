@@ -1,4 +1,4 @@
--- The rows of a snapshot as versions with their documents.
+-- The rows of a snapshot as versions with their documents (own).
 use Rattle.std.specs.Prelude.{ℕ}
 use Rattle.tuple_values.specs.Document.{Doc}
 use Rattle.shard_versions.specs.declared.snapshot.Row.{Row}

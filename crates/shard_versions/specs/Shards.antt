@@ -1,4 +1,4 @@
--- What a shard's state and a snapshot of it are seen as.
+-- What a shard's state and a snapshot of it are seen as (own).
 use Rattle.std.specs.Prelude.{ℕ, ◌≤◌, List, length, refl}
 use Rattle.std.specs.Coded.{Coded, code_by, coded×, coded_ℕ, coded_list}
 use Rattle.tuple_values.specs.Codes.{doc_code}

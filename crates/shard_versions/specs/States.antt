@@ -1,4 +1,4 @@
--- When what a shard keeps beside its entries is right.
+-- When what a shard keeps beside its entries is right (own).
 use Rattle.std.specs.Prelude.{ℕ, ◌+◌, ◌-◌, ◌^◌, ◌≡◌, ◌<◌, ◌≤◌, min, List, [], length, map, vec_len, vec_capacity}
 use Rattle.shard_versions.specs.Histories.{settled}
 use Rattle.shard_versions.specs.Sizes.{entries_bytes}

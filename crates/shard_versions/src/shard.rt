@@ -1,5 +1,5 @@
 // The state of a shard.
-ghost use Rattle.std.specs.Prelude.{◌≡◌, ◌+◌, ◌-◌, ◌<◌, ◌≤◌, ◌^◌, ◌++◌, ◌∷◌, ◌↔◌, [], length, min, IsErrOf, OnOk, IfOk, List, if◌then◌else◌};
+ghost use Rattle.std.specs.Prelude.{◌≡◌, ◌+◌, ◌-◌, ◌<◌, ◌≤◌, ◌^◌, ◌++◌, ◌∷◌, ◌↔◌, [], length, min, IsErrOf, OnErr, OnOk, IfOk, List, if◌then◌else◌};
 ghost use Rattle.shard_versions.specs.declared.entry.Entry.{Entry};
 ghost use Rattle.shard_versions.specs.Histories.{is_mark, is_pending, top, current};
 ghost use Rattle.shard_versions.specs.Deliveries.{admits};
@@ -140,6 +140,7 @@ impl ShardState {
         ensures entries { self.new.entries ≡ self.old.entries }
         ensures limit { self.new.limit ≡ self.old.limit }
         ensures room { OnOk result (HasRoom self.new step.now) }
+        ensures err { OnErr result (self.new ≡ self.old) }
         ensures shard_full { IsErrOf result ShardFault.ShardFull
             ↔ (self.old.limit < entries_bytes self.old.entries + entries_bytes step.now) }
     {

@@ -1,7 +1,8 @@
 -- Which entries may follow in a book (own).
-use Rattle.std.specs.Prelude.{ℕ, ◌≡◌, ◌≢◌, ◌<◌, List, [], ◌∷◌, ◌++◌, length, Option, Some, None, bytes_eq, if◌then◌else◌}
+use Rattle.std.specs.Prelude.{ℕ, ◌≡◌, ◌≢◌, ◌<◌, List, [], ◌∷◌, ◌++◌, length, Option, Some, None}
 use Rattle.std.specs.List.{AllByRecursion}
 use Rattle.tuple_values.specs.Document.{ByteList}
+unfoldable pub use Rattle.tuple_values.specs.Collections.{shards_of}
 use Rattle.tuple_values.specs.declared.names.NameShards.{NameShards}
 use Rattle.topic_book.specs.Books.{Book, binding_of}
 use Rattle.topic_book.specs.declared.topic.TopicKey.{TopicKey}
@@ -23,12 +24,6 @@ MayFollow book (Store by key upto) = IsOfTopic (binding_of key book) upto
 unfoldable pub IsOrdered : Book → List BookEntry → Type 0
 IsOrdered before [] = Unit {0}
 IsOrdered before (e ∷ es) = MayFollow before e × IsOrdered (before ++ e ∷ []) es
-
--- how many shards the collection has, and 0 where there is none of this name
-unfoldable pub shards_of : List NameShards → ByteList → ℕ
-shards_of [] collection = 0
-shards_of (n ∷ names) collection =
-    if bytes_eq n.name collection then n.shards else shards_of names collection
 
 -- a destination is another collection than the source, and is known
 abbrev pub IsFitDestination : List NameShards → ByteList → Option ByteList → Type 0

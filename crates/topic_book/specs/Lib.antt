@@ -1,3 +1,4 @@
+pub mod Alike
 pub mod Books
 pub mod Cells
 pub mod Fitness

@@ -1,4 +1,4 @@
--- Numbers that are raised, and the topics that a book's state keeps.
+-- Numbers that are raised, and the topics that a book's state keeps (own).
 use Rattle.std.specs.Prelude.{ℕ, zero, suc, max, List, [], ◌∷◌, ◌++◌, Option, Some, None, option_to_list, option_map, Bool, false, nat_lt, ◌||◌, if◌then◌else◌}
 use Rattle.topic_book.specs.Books.{same_key}
 use Rattle.topic_book.specs.declared.topic.TopicKey.{TopicKey}

@@ -1,4 +1,4 @@
--- What the state of a book is seen as, and the answers to a Bind.
+-- What the state of a book is seen as, and the answers to a Bind (own).
 use Rattle.std.specs.Prelude.{ℕ, ◌≡◌, ◌<◌, ◌≤◌, ◌++◌, ◌∷◌, [], List, Option, Some, None, if◌then◌else◌}
 use Rattle.topic_book.specs.Books.{Book, binding_of, topics_in, raises, IsAlike}
 use Rattle.topic_book.specs.Raises.{new_topic}

@@ -1,4 +1,4 @@
--- When the topics that a book's state keeps are those of its entries.
+-- When the topics that a book's state keeps are those of its entries (own).
 use Rattle.std.specs.Prelude.{ℕ, ◌+◌, ◌≡◌, ◌<◌, ◌≤◌, ◌^◌, List, [], length, option_map, vec_len, vec_capacity}
 use Rattle.topic_book.specs.Books.{Book, binding_of, checkpoints_at, topics_in}
 use Rattle.topic_book.specs.Fitness.{IsOrdered}

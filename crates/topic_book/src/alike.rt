@@ -1,5 +1,6 @@
 // Tests of keys and bindings.
 ghost use Rattle.std.specs.Prelude.{◌≡◌, Decides};
+ghost use Rattle.topic_book.specs.Alike.{is_alike};
 ghost use Rattle.topic_book.specs.Books.{same_key, IsAlike};
 
 use crate::{Binding, TopicKey};
@@ -45,12 +46,20 @@ fn same_destination(a: &Option<Text>, b: &Option<Text>) -> bool
     }
 }
 
-/// Whether the bindings agree in all but the initial checkpoint.
-pub(crate) fn is_alike(a: &Binding, b: &Binding) -> bool
+// Whether the bindings agree, by one test after another.
+fn agree(a: &Binding, b: &Binding) -> bool
     ensures { Decides result (IsAlike a.now b.now) }
 {
     a.src.as_str() == b.src.as_str()
         && a.q.as_str() == b.q.as_str()
         && same_names(&a.fields, &b.fields)
         && same_destination(&a.dest, &b.dest)
+}
+
+/// Whether the bindings agree in all but the initial checkpoint.
+pub fn is_alike(a: &Binding, b: &Binding) -> bool
+    ensures tells { Decides result (IsAlike a.now b.now) }
+    ensures test { result ≡ is_alike a.now b.now }
+{
+    agree(a, b)
 }

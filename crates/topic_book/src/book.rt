@@ -110,7 +110,7 @@ impl BookState {
             (IsOpen (binding_of key self.old.entries) (topics_in self.old.entries) binding) }
         ensures entries { OnOk result
             (self.new.entries ≡ after_bind self.old.entries by key binding) }
-        ensures err { OnErr result (self.new.entries ≡ self.old.entries) }
+        ensures err { OnErr result (self.new ≡ self.old) }
         ensures cause { IfErr result (λ fault. IsRefusal (binding_of key self.old.entries)
             (topics_in self.old.entries) binding fault) }
     {
@@ -128,7 +128,7 @@ impl BookState {
     pub fn store(&mut self, by: u64, key: &TopicKey, upto: Versions) -> Result<(), Memory>
         requires { IsOfTopic (binding_of key.now self.old.entries) upto }
         ensures ok { OnOk result (self.new.entries ≡ after_store self.old.entries by key.now upto) }
-        ensures err { OnErr result (self.new.entries ≡ self.old.entries) }
+        ensures err { OnErr result (self.new ≡ self.old) }
     {
         if !self.is_raised(key, &upto) {
             return Ok(());
@@ -143,7 +143,7 @@ impl BookState {
     }
 
     /// Whether the versions raise the topic's checkpoint somewhere.
-    fn is_raised(&self, key: &TopicKey, upto: &Versions) -> bool
+    pub fn is_raised(&self, key: &TopicKey, upto: &Versions) -> bool
         requires { IsOfTopic (binding_of key.now self.now.entries) upto.now }
         ensures { result ≡ raises key.now self.now.entries upto.now }
     {
@@ -159,6 +159,7 @@ impl BookState {
         ensures ok { OnOk result (IsOpenTo self.old.entries entry.now) }
         ensures room { OnOk result
             (MayFollow self.old.entries entry.now → HasRoom self.new entry.now) }
+        ensures err { OnErr result (self.new ≡ self.old) }
         ensures cause { IfErr result (λ fault. IsCauseOf self.old.entries entry.now fault) }
     {
         let ready = ready_for(self.alloc, &self.topics, entry)?;

@@ -9,7 +9,7 @@ mod tests;
 mod topic;
 mod topics;
 
-pub use alike::same_key;
+pub use alike::{is_alike, same_key};
 pub use book::BookState;
 pub use fault::BookFault;
 pub use topic::{Binding, BookEntries, BookEntry, TopicKey};

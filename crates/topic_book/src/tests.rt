@@ -128,3 +128,38 @@ fn an_entry_that_may_follow_is_appended(rt: HostRuntime) -> Result<(), Fail> {
     assert_eq!(rt; book.len(), 2);
     Ok(())
 }
+
+fn bind_number(book: &mut BookState, alloc: Global, number: u64) -> Result<(), BookFault> {
+    match format!(in alloc; "{number}") {
+        Ok(id) => bind(book, alloc, id.as_str(), "c"),
+        Err(_) => Err(BookFault::OutOfMemory),
+    }
+}
+
+// The book of so many topics.
+fn book_of(alloc: Global, topics: u64) -> Result<BookState, BookFault> {
+    let mut book = BookState::empty(alloc);
+    for number in 0..topics {
+        bind_number(&mut book, alloc, number)?;
+    }
+    Ok(book)
+}
+
+fn is_full(answer: &Result<(), BookFault>) -> bool {
+    matches!(answer, Err(BookFault::BookFull { topics: 1000 }))
+}
+
+// Whether a book of so many topics takes one more, and none behind it.
+fn takes_one_more(alloc: Global, topics: u64) -> Result<bool, BookFault> {
+    let mut book = book_of(alloc, topics)?;
+    let one = bind_number(&mut book, alloc, 1000);
+    let another = bind_number(&mut book, alloc, 1001);
+    Ok(one.is_ok() && is_full(&another))
+}
+
+#[test]
+fn the_thousandth_topic_is_the_last(rt: HostRuntime) -> Result<(), Fail> {
+    let holds = takes_one_more(rt.alloc(), 999)?;
+    assert!(rt; holds);
+    Ok(())
+}
