@@ -1,0 +1,4 @@
+pub mod TreeLemmas
+pub mod GroupLemmas
+pub mod OrderLemmas
+pub mod SourceLemmas

@@ -1,0 +1,10 @@
+pub mod ConditionTree
+pub mod ConditionViews
+pub mod ExprTree
+pub mod ExprViews
+pub mod Sources
+pub mod Orders
+pub mod Conditions
+pub mod Rows
+pub mod Groups
+pub mod Lists

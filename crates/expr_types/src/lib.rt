@@ -1,0 +1,12 @@
+//! Expressions: what they are, what each function gives over lists of documents.
+#![tactic(auto)]
+
+mod condition;
+mod expr;
+mod item;
+#[cfg(test)]
+mod tests;
+
+pub use condition::{Comparison, Condition, Conditions};
+pub use expr::{Expr, Exprs};
+pub use item::{GroupOp, Item, Items, Metric, Metrics};
