@@ -15,8 +15,8 @@ use Rattle.tuple_values.proofs.MapLemmas.{bytes_same, value_put_other}
 use Rattle.tuple_values.proofs.OrderLemmas.{datum_cmp_same}
 use Rattle.sort_spec.specs.Terms.{field_cmp, term_cmp, sort_cmp, less}
 use Rattle.sort_spec.specs.declared.term.SortTerm.{SortTerm}
-use Rattle.expr_plan.specs.Groups.{same_key}
-use Rattle.expr_plan.specs.Sources.{cut_to}
+use Rattle.expr_types.specs.Groups.{same_key}
+use Rattle.expr_types.specs.Sources.{cut_to}
 use Rattle.expr_check.proofs.NeedLemmas.{and_first, and_second, same_bytes, itself_bytes}
 
 -- the terms have the same directions, and the documents the same values in their fields

@@ -5,7 +5,7 @@ use Rattle.std.proofs.Common.{length, take, filter, map, if◌then◌else◌, re
 use Rattle.std.specs.List.{AllByRecursion}
 use Rattle.sort_spec.specs.Sorting.{insert, ins_from, IsAscending}
 use Rattle.sort_spec.proofs.SortLemmas.{each_weaker}
-use Rattle.expr_plan.specs.Groups.{firsts}
+use Rattle.expr_types.specs.Groups.{firsts}
 
 module _ {X : Type 0} (P : X → Type 0) where
   -- a fact of each element is one of each that is kept

@@ -11,10 +11,10 @@ use Rattle.tuple_values.specs.Order.{datum_cmp}
 use Rattle.tuple_values.specs.Views.{datum_of}
 use Rattle.tuple_values.proofs.MapLemmas.{value_put}
 use Rattle.sort_spec.specs.declared.term.SortTerm.{SortTerm}
-use Rattle.expr_plan.specs.Rows.{chosen, with_value, with_text, joined_texts, texts_of, changed}
-use Rattle.expr_plan.specs.Rows.{selected}
-use Rattle.expr_plan.specs.declared.item.Item.{Item}
-use Rattle.expr_plan.specs.declared.item.Item.TheVariants.{Field, Replace, Concat}
+use Rattle.expr_types.specs.Rows.{chosen, with_value, with_text, joined_texts, texts_of, changed}
+use Rattle.expr_types.specs.Rows.{selected}
+use Rattle.expr_types.specs.declared.item.Item.{Item}
+use Rattle.expr_types.specs.declared.item.Item.TheVariants.{Field, Replace, Concat}
 use Rattle.expr_check.specs.Orders.{touches, is_untouched, is_touched_once, name_in}
 use Rattle.expr_check.specs.Orders.{new_name}
 use Rattle.expr_check.specs.Orders.{kept_term, kept_terms}

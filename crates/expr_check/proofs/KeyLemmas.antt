@@ -9,11 +9,11 @@ use Rattle.sort_spec.specs.Sorting.{ins_sort, IsAscending}
 use Rattle.sort_spec.specs.Terms.{less}
 use Rattle.sort_spec.proofs.SortLemmas.{each_weaker, ins_each}
 use Rattle.sort_spec.specs.declared.term.SortTerm.{SortTerm}
-use Rattle.expr_plan.specs.Groups.{same_key, firsts, groups, with_group, reduced, rolled}
-use Rattle.expr_plan.specs.Groups.{key_of, metric_name, metric_of, with_number}
-use Rattle.expr_plan.specs.declared.item.Metric.{Metric}
-use Rattle.expr_plan.specs.declared.item.GroupOp.{GroupOp}
-use Rattle.expr_plan.proofs.OrderLemmas.{ascends_by_first}
+use Rattle.expr_types.specs.Groups.{same_key, firsts, groups, with_group, reduced, rolled}
+use Rattle.expr_types.specs.Groups.{key_of, metric_name, metric_of, with_number}
+use Rattle.expr_types.specs.declared.item.Metric.{Metric}
+use Rattle.expr_types.specs.declared.item.GroupOp.{GroupOp}
+use Rattle.expr_types.proofs.OrderLemmas.{ascends_by_first}
 use Rattle.expr_check.specs.Needs.{names_first}
 use Rattle.expr_check.proofs.NeedLemmas.{and_first, and_second, same_bytes, itself_bytes}
 use Rattle.expr_check.proofs.AscendLemmas.{each_firsts, ascends_firsts, ascends_map, each_passes}

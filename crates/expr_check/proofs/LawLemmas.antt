@@ -12,32 +12,35 @@ use Rattle.sort_spec.specs.Terms.{less}
 use Rattle.sort_spec.proofs.StableLemmas.{ins_ascends}
 use Rattle.sort_spec.proofs.TermLemmas.{less_is_weak}
 use Rattle.sort_spec.specs.declared.term.SortTerm.{SortTerm}
-use Rattle.expr_plan.specs.ConditionTree.{ConditionTree}
-use Rattle.expr_plan.specs.Conditions.{holds, having_list}
-use Rattle.expr_plan.specs.ExprTree.{ExprTree, SearchParts, search, tuple, select, having, sort}
-use Rattle.expr_plan.specs.ExprTree.{top}
-use Rattle.expr_plan.specs.ExprTree.{unique, merge, reduce, rollup, inner_join, left_outer_join}
-use Rattle.expr_plan.specs.ExprTree.{intersect, complement, hash_join, outer_hash_join, in_parallel}
-use Rattle.expr_plan.specs.ExprTree.{topic, update, commit, daemon, ExprTrees, no_exprs, an_expr}
-use Rattle.expr_plan.specs.Groups.{same_key, firsts, groups, unique_list, reduced, reduce_list}
-use Rattle.expr_plan.specs.Groups.{rolled}
-use Rattle.expr_plan.specs.Groups.{rollup_list, metric_name}
-use Rattle.expr_plan.specs.Lists.{Collections, list_of, lists_of, AreSorted, AreAllSorted}
-use Rattle.expr_plan.specs.Lists.{AreKeysKept, AreAllKept}
-use Rattle.expr_plan.specs.Orders.{IsSortedOver}
-use Rattle.expr_plan.specs.Rows.{selected, select_list}
-use Rattle.expr_plan.specs.Sources.{cut_to, first_rows, then_by_id, found_rows, search_list}
-use Rattle.expr_plan.specs.declared.item.GroupOp.{GroupOp}
-use Rattle.expr_plan.specs.declared.item.Item.{Item}
-use Rattle.expr_plan.specs.declared.item.Metric.{Metric}
-use Rattle.expr_plan.proofs.OrderLemmas.{ascends_by_first}
-use Rattle.expr_check.specs.Orders.{IsInOrder, kept_order, kept_terms, first_terms, order_of}
-use Rattle.expr_check.specs.Orders.{orders_of}
+use Rattle.expr_types.specs.ConditionTree.{ConditionTree}
+use Rattle.expr_types.specs.Conditions.{holds, having_list}
+use Rattle.expr_types.specs.ExprTree.{Operator, search, tuple, select, having, sort, top, unique}
+use Rattle.expr_types.specs.ExprTree.{merge, reduce, rollup, inner_join, left_outer_join, intersect}
+use Rattle.expr_types.specs.ExprTree.{complement, hash_join, outer_hash_join, in_parallel, topic}
+use Rattle.expr_types.specs.ExprTree.{update, commit, daemon, first_or, SearchParts}
+use Rattle.expr_types.specs.ExprTree.{ExprTree, node, ExprTrees, no_exprs, an_expr}
+use Rattle.expr_types.specs.Groups.{same_key, firsts, groups, unique_list, reduced, reduce_list}
+use Rattle.expr_types.specs.Groups.{rolled}
+use Rattle.expr_types.specs.Groups.{rollup_list, metric_name}
+use Rattle.expr_types.specs.Lists.{Collections, given, list_of, lists_of, AreAsNeeded, AreSorted}
+use Rattle.expr_types.specs.Lists.{AreAllSorted, keeps_keys, are_kept, all_kept}
+use Rattle.expr_types.specs.Orders.{IsSortedOver}
+use Rattle.expr_types.specs.Rows.{selected, select_list}
+use Rattle.expr_types.specs.Sources.{cut_to, first_rows, then_by_id, found_rows, search_list}
+use Rattle.expr_types.specs.declared.item.GroupOp.{GroupOp}
+use Rattle.expr_types.specs.declared.item.Item.{Item}
+use Rattle.expr_types.specs.declared.item.Metric.{Metric}
+use Rattle.expr_types.proofs.OrderLemmas.{ascends_by_first}
+use Rattle.expr_check.specs.Orders.{IsInOrder, kept_order, kept_terms, first_terms, order_given}
+use Rattle.expr_check.specs.Orders.{order_of, orders_of}
 use Rattle.expr_check.specs.Needs.{names_first, meets_sort, meets_names}
-use Rattle.expr_check.specs.Faults.{are_met, are_all_met}
+use Rattle.expr_check.specs.Faults.{search_fault, names_fault, sort_fault, first_fault, fault_at}
+use Rattle.expr_check.specs.Faults.{fault_where, faults_where, own_fault}
+use Rattle.expr_check.proofs.FaultLemmas.{none_first, none_second, names_met, sort_met, fields_met}
 use Rattle.expr_check.specs.declared.order.Order.{Order}
 use Rattle.expr_check.specs.declared.order.Order.TheVariants.{Any, By}
-use Rattle.expr_check.proofs.NeedLemmas.{and_first, and_second, same_bytes, are_first-prefix}
+use Rattle.expr_check.proofs.NeedLemmas.{and_first, and_second, is_false, same_bytes}
+use Rattle.expr_check.proofs.NeedLemmas.{are_first-prefix}
 use Rattle.expr_check.proofs.AscendLemmas.{ascends_filter, ascends_take, ascends_firsts}
 use Rattle.expr_check.proofs.AscendLemmas.{ascends_map}
 use Rattle.expr_check.proofs.AscendLemmas.{ascends_short, each_of, shorter-filter, shorter-firsts}
@@ -203,79 +206,161 @@ sorted_over names (By terms) docs m a =
       ascends = subst (λ (l : List SortTerm). IsAscending (less l) docs) n.parted a;
     }
 
+-- each list is in the order beside it
+abbrev pub AreInOrder : List Order → List (List Doc) → Type 0
+AreInOrder [] [] = Unit {0}
+AreInOrder [] (l ∷ ls) = ⊥
+AreInOrder (o ∷ os) [] = ⊥
+AreInOrder (o ∷ os) (l ∷ ls) = IsInOrder o l × AreInOrder os ls
+
+-- so is the first of them
+first_in_order : (orders : List Order) (lists : List (List Doc)) → AreInOrder orders lists
+    → IsInOrder (first_or Any orders) (first_or [] lists)
+first_in_order [] [] a = omega arith
+first_in_order [] (l ∷ ls) a = absurd a
+first_in_order (o ∷ os) [] a = absurd a
+first_in_order (o ∷ os) (l ∷ ls) a = a.0
+
+-- any meets all names, and so does the first of orders that meet them
+first_meets : (function : ByteList) (names : List ByteList) (orders : List Order)
+    → first_fault (names_fault function names) orders ≡ None
+    → meets_names names (first_or Any orders) ≡ true
+first_meets function names [] e = refl
+first_meets function names (o ∷ os) e =
+    names_met function names o
+    (none_first (names_fault function names o) (first_fault (names_fault function names) os) e)
+
+-- inputs without a fault are sorted over the names
+all_sorted_over : (function : ByteList) (names : List ByteList) (orders : List Order)
+    (lists : List (List Doc)) → first_fault (names_fault function names) orders ≡ None
+    → AreInOrder orders lists → AllByRecursion (IsSortedOver names) lists
+all_sorted_over function names [] [] e a = tt
+all_sorted_over function names [] (l ∷ ls) e a = absurd a
+all_sorted_over function names (o ∷ os) [] e a = absurd a
+all_sorted_over function names (o ∷ os) (l ∷ ls) e a = (
+  sorted_over names o l
+      (names_met function names o
+      (none_first (names_fault function names o) (first_fault (names_fault function names) os) e))
+      a.0,
+  all_sorted_over function names os ls
+      (none_second (names_fault function names o) (first_fault (names_fault function names) os) e)
+      a.1,
+)
+
+-- those of a merge ascend
+all_ascend : (on : List SortTerm) (orders : List Order) (lists : List (List Doc))
+    → first_fault (sort_fault on) orders ≡ None → AreInOrder orders lists
+    → AllByRecursion (IsAscending (less on)) lists
+all_ascend on [] [] e a = tt
+all_ascend on [] (l ∷ ls) e a = absurd a
+all_ascend on (o ∷ os) [] e a = absurd a
+all_ascend on (o ∷ os) (l ∷ ls) e a = (
+  merge_input on o l
+      (sort_met on o (none_first (sort_fault on o) (first_fault (sort_fault on) os) e)) a.0,
+  all_ascend on os ls (none_second (sort_fault on o) (first_fault (sort_fault on) os) e) a.1,
+)
+
+-- where an operator has no fault, the lists of its inputs are in the order that it needs
+needs_hold : (op : Operator) (orders : List Order) (lists : List (List Doc))
+    → keeps_keys op ≡ true → fault_at (λ name. true) op orders ≡ None → AreInOrder orders lists
+    → AreAsNeeded op lists
+needs_hold (search p) orders lists k e a = tt
+needs_hold (tuple fields) orders lists k e a = tt
+needs_hold (select items) orders lists k e a = tt
+needs_hold (having condition) orders lists k e a = tt
+needs_hold (sort by) orders lists k e a = tt
+needs_hold (top n by) orders lists k e a = tt
+needs_hold (unique over) orders lists k e a =
+    all_sorted_over (codes "unique") over orders lists e a
+needs_hold (merge on) orders lists k e a = all_ascend on orders lists e a
+needs_hold (reduce by op) orders lists k e a =
+    all_sorted_over (codes "reduce") by orders lists e a
+needs_hold (rollup over metrics) orders lists k e a =
+    all_sorted_over (codes "rollup") over orders lists e a
+needs_hold (inner_join on) orders lists k e a = absurd (cc)
+needs_hold (left_outer_join on) orders lists k e a = absurd (cc)
+needs_hold (intersect on) orders lists k e a = absurd (cc)
+needs_hold (complement on) orders lists k e a = absurd (cc)
+needs_hold (hash_join on) orders lists k e a = absurd (cc)
+needs_hold (outer_hash_join on) orders lists k e a = absurd (cc)
+needs_hold (in_parallel collection workers by) orders lists k e a = absurd (cc)
+needs_hold (topic p) orders lists k e a = absurd (cc)
+needs_hold (update dest size) orders lists k e a = absurd (cc)
+needs_hold (commit dest size) orders lists k e a = absurd (cc)
+needs_hold (daemon id interval terminate) orders lists k e a = absurd (cc)
+
+-- and what it gives is in its order
+given_in_order : (docs : Collections) (op : Operator) (orders : List Order)
+    (lists : List (List Doc)) → keeps_keys op ≡ true → fault_at (λ name. true) op orders ≡ None
+    → AreInOrder orders lists → IsInOrder (order_given op orders) (given docs op lists)
+given_in_order docs (search p) orders lists k e a =
+    search_ascends p (docs p.collection) (fields_met p.fl p.sort e)
+given_in_order docs (tuple fields) orders lists k e a = omega arith
+given_in_order docs (select items) orders lists k e a =
+    select_in_order items (first_or Any orders) (first_or [] lists)
+    (first_in_order orders lists a)
+given_in_order docs (having condition) orders lists k e a =
+    having_in_order condition (first_or Any orders) (first_or [] lists)
+    (first_in_order orders lists a)
+given_in_order docs (sort by) orders lists k e a = sorted_ascends by (first_or [] lists)
+given_in_order docs (top n by) orders lists k e a =
+    ascends_take (less by) n (ins_sort (less by) (first_or [] lists))
+    (sorted_ascends by (first_or [] lists))
+given_in_order docs (unique over) orders lists k e a =
+    unique_in_order over (first_or Any orders) (first_or [] lists)
+    (first_in_order orders lists a)
+given_in_order docs (merge on) orders lists k e a =
+    sorted_ascends on (flat_map (λ l. l) lists)
+given_in_order docs (reduce by op) orders lists k e a =
+    reduce_in_order by op (first_or Any orders) (first_or [] lists)
+    (is_false (is_named (codes "group") by) k)
+    (first_meets (codes "reduce") by orders e) (first_in_order orders lists a)
+given_in_order docs (rollup over metrics) orders lists k e a =
+    rollup_in_order over metrics (first_or Any orders) (first_or [] lists) k
+    (first_meets (codes "rollup") over orders e) (first_in_order orders lists a)
+given_in_order docs (inner_join on) orders lists k e a = absurd (cc)
+given_in_order docs (left_outer_join on) orders lists k e a = absurd (cc)
+given_in_order docs (intersect on) orders lists k e a = absurd (cc)
+given_in_order docs (complement on) orders lists k e a = absurd (cc)
+given_in_order docs (hash_join on) orders lists k e a = absurd (cc)
+given_in_order docs (outer_hash_join on) orders lists k e a = absurd (cc)
+given_in_order docs (in_parallel collection workers by) orders lists k e a = absurd (cc)
+given_in_order docs (topic p) orders lists k e a = absurd (cc)
+given_in_order docs (update dest size) orders lists k e a = absurd (cc)
+given_in_order docs (commit dest size) orders lists k e a = absurd (cc)
+given_in_order docs (daemon id interval terminate) orders lists k e a = absurd (cc)
+
 -- both facts of an expression
 abbrev pub Holds : Collections → ExprTree → Type 0
 Holds docs t = AreSorted docs t × IsInOrder (order_of t) (list_of docs t)
 
--- and of the inputs of a merge
-abbrev pub HoldAll : Collections → List SortTerm → ExprTrees → Type 0
-HoldAll docs on ts =
-    AreAllSorted docs ts × AllByRecursion (IsAscending (less on)) (lists_of docs ts)
+-- and of inputs
+abbrev pub HoldAll : Collections → ExprTrees → Type 0
+HoldAll docs ts = AreAllSorted docs ts × AreInOrder (orders_of ts) (lists_of docs ts)
 
 mutual
-  -- they hold of an expression whose needs are met
-  pub holds_of : (docs : Collections) (t : ExprTree) → AreKeysKept t → are_met t ≡ true
+  -- they hold of an expression that keeps its keys and has no fault
+  pub holds_of : (docs : Collections) (t : ExprTree) → are_kept t ≡ true → own_fault t ≡ None
       → Holds docs t
-  holds_of docs (search p) k e = (tt, search_ascends p (docs p.collection) e)
-  holds_of docs (tuple fields) k e = (tt, omega arith)
-  holds_of docs (select t items) k e =
-      let h = holds_of docs t k e in
-      (h.0, select_in_order items (order_of t) (list_of docs t) h.1)
-  holds_of docs (having t condition) k e =
-      let h = holds_of docs t k e in
-      (h.0, having_in_order condition (order_of t) (list_of docs t) h.1)
-  holds_of docs (sort t by) k e =
-      let h = holds_of docs t k e in (h.0, sorted_ascends by (list_of docs t))
-  holds_of docs (top t n by) k e =
-      let h = holds_of docs t k e in (
-        h.0,
-        ascends_take (less by) n (ins_sort (less by) (list_of docs t))
-            (sorted_ascends by (list_of docs t)),
+  holds_of docs (node op inputs) k e =
+      let here = and_first (keeps_keys op) (all_kept inputs) k in
+      let own =
+      none_first (fault_at (λ name. true) op (orders_of inputs)) (faults_where (λ name. true) inputs)
+      e in
+      let h = hold_all docs inputs (and_second (keeps_keys op) (all_kept inputs) k)
+      (none_second (fault_at (λ name. true) op (orders_of inputs))
+      (faults_where (λ name. true) inputs) e) in (
+        (h.0, needs_hold op (orders_of inputs) (lists_of docs inputs) here own h.1),
+        given_in_order docs op (orders_of inputs) (lists_of docs inputs) here own h.1,
       )
-  holds_of docs (unique t over) k e =
-      let m = and_first (meets_names over (order_of t)) (are_met t) e in
-      let h = holds_of docs t k (and_second (meets_names over (order_of t)) (are_met t) e) in (
-        (h.0, sorted_over over (order_of t) (list_of docs t) m h.1),
-        unique_in_order over (order_of t) (list_of docs t) h.1,
-      )
-  holds_of docs (merge inputs on) k e =
-      let h =
-      hold_all docs on inputs k (and_second (list_all (meets_sort on) (orders_of inputs)) _ e)
-      (and_first (list_all (meets_sort on) (orders_of inputs)) (are_all_met inputs) e) in
-      (h, sorted_ascends on (flat_map (λ l. l) (lists_of docs inputs)))
-  holds_of docs (reduce t by op) k e =
-      let m = and_first (meets_names by (order_of t)) (are_met t) e in
-      let h = holds_of docs t k.0 (and_second (meets_names by (order_of t)) (are_met t) e) in (
-        (h.0, sorted_over by (order_of t) (list_of docs t) m h.1),
-        reduce_in_order by op (order_of t) (list_of docs t) k.1 m h.1,
-      )
-  holds_of docs (rollup t over metrics) k e =
-      let m = and_first (meets_names over (order_of t)) (are_met t) e in
-      let h = holds_of docs t k.0 (and_second (meets_names over (order_of t)) (are_met t) e) in (
-        (h.0, sorted_over over (order_of t) (list_of docs t) m h.1),
-        rollup_in_order over metrics (order_of t) (list_of docs t) k.1 m h.1,
-      )
-  holds_of docs (inner_join left right on) k e = absurd k
-  holds_of docs (left_outer_join left right on) k e = absurd k
-  holds_of docs (intersect left right on) k e = absurd k
-  holds_of docs (complement left right on) k e = absurd k
-  holds_of docs (hash_join input hashed on) k e = absurd k
-  holds_of docs (outer_hash_join input hashed on) k e = absurd k
-  holds_of docs (in_parallel input collection workers by) k e = absurd k
-  holds_of docs (topic p) k e = absurd k
-  holds_of docs (update input dest size) k e = absurd k
-  holds_of docs (commit input dest size) k e = absurd k
-  holds_of docs (daemon input id interval terminate) k e = absurd k
 
-  -- and of all inputs of a merge
-  pub hold_all : (docs : Collections) (on : List SortTerm) (ts : ExprTrees) → AreAllKept ts
-      → are_all_met ts ≡ true → list_all (meets_sort on) (orders_of ts) ≡ true → HoldAll docs on ts
-  hold_all docs on no_exprs k e m = (tt, tt)
-  hold_all docs on (an_expr t ts) k e m =
-      let here =
-      and_first (meets_sort on (order_of t)) (list_all (meets_sort on) (orders_of ts)) m in
-      let later =
-      and_second (meets_sort on (order_of t)) (list_all (meets_sort on) (orders_of ts)) m in
-      let h = holds_of docs t k.0 (and_first (are_met t) (are_all_met ts) e) in
-      let hs = hold_all docs on ts k.1 (and_second (are_met t) (are_all_met ts) e) later in
-      ((h.0, hs.0), (merge_input on (order_of t) (list_of docs t) here h.1, hs.1))
+  -- and of all inputs
+  pub hold_all : (docs : Collections) (ts : ExprTrees) → all_kept ts ≡ true
+      → faults_where (λ name. true) ts ≡ None → HoldAll docs ts
+  hold_all docs no_exprs k e = (tt, tt)
+  hold_all docs (an_expr t ts) k e =
+      let h = holds_of docs t (and_first (are_kept t) (all_kept ts) k)
+      (none_first (own_fault t) (faults_where (λ name. true) ts) e) in
+      let hs = hold_all docs ts (and_second (are_kept t) (all_kept ts) k)
+      (none_second (own_fault t) (faults_where (λ name. true) ts) e) in
+      ((h.0, hs.0), (h.1, hs.1))

@@ -17,6 +17,11 @@ pub and_second : (a b : Bool) → (a && b) ≡ true → b ≡ true
 and_second true b e = e
 and_second false b e = absurd (cc)
 
+-- what isn't true is false
+pub is_false : (b : Bool) → not b ≡ true → b ≡ false
+is_false true e = absurd (cc)
+is_false false e = refl
+
 -- texts that are told equal are one
 pub same_bytes : (a b : ByteList) → bytes_eq a b ≡ true → a ≡ b
 same_bytes a b e = (bytes_eq-Decides a b).0 e

@@ -1,12 +1,19 @@
--- First faults and collections, one input after another.
-use Rattle.std.proofs.Common.{◌≡◌, List, [], ◌∷◌, ◌++◌, Option, Some, None, refl, fold}
-use Rattle.std.proofs.Common.{ap, sym, ◌∙◌, append_assoc}
+-- Orders, first faults and collections, one input after another.
+use Rattle.std.proofs.Common.{◌≡◌, ℕ, ◌+◌, ◌<◌, List, [], ◌∷◌, ◌++◌, length, get_or, drop, Bool}
+use Rattle.std.proofs.Common.{true, Option, Some, None, refl, fold, ap, sym, ◌∙◌, append_assoc}
+use Rattle.std.specs.Prelude.{is_none}
 use Rattle.std.specs.Option.{option_or}
-use Rattle.std.proofs.lemmas.List.{append-nil}
+use Rattle.std.proofs.lemmas.List.{append-nil, at_drop_more}
 use Rattle.tuple_values.specs.Document.{ByteList}
 use Rattle.sort_spec.specs.Texts.{once}
 use Rattle.sort_spec.proofs.OnceLemmas.{once_push}
-use Rattle.expr_check.specs.Reads.{with_name}
+use Rattle.expr_types.specs.ExprTree.{ExprTree, inputs_of, inputs_in, operator_in}
+use Rattle.expr_types.proofs.TreeLemmas.{node-parts}
+use Rattle.expr_check.specs.Orders.{order_of, orders_of, order_given}
+use Rattle.expr_check.specs.Faults.{fault_at, fault_where, faults_where}
+use Rattle.expr_check.specs.Reads.{with_name, read_by, searched_in, all_searched}
+use Rattle.expr_check.specs.declared.order.Order.{Order}
+use Rattle.expr_check.specs.declared.fault.CheckFault.{CheckFault}
 
 -- the first of three
 pub option_or-assoc : {T : Type 0} (a b c : Option T)
@@ -25,11 +32,76 @@ pub fold-append : {A B : Type 0} (f : A → B → A) (a : A) (xs ys : List B)
 fold-append f a [] ys = refl
 fold-append f a (x ∷ xs) ys = fold-append f (f a x) xs ys
 
--- what a walk over inputs needs
-pub ruleset walk_steps = (option_or-assoc, option_or-none)
+-- what is told not to be there is not there
+pub is_none-None : {T : Type 0} (a : Option T) → is_none a ≡ true → a ≡ None
+is_none-None None e = refl
+is_none-None (Some x) e = absurd (cc)
 
--- what a walk that collects needs
-pub ruleset read_steps = (fold-append)
+-- the order of an expression is that of its operator over the orders of its inputs
+pub order_of-parts : (t : ExprTree)
+    → order_of t ≡ order_given (operator_in t) (orders_of (inputs_of (inputs_in t)))
+order_of-parts t = ap order_of (sym (node-parts t))
+
+-- its first fault is that of its operator, or else that of its inputs
+pub fault_where-parts : (is_there : ByteList → Bool) (t : ExprTree)
+    → fault_where is_there t
+    ≡ option_or (fault_at is_there (operator_in t) (orders_of (inputs_of (inputs_in t))))
+    (faults_where is_there (inputs_of (inputs_in t)))
+fault_where-parts is_there t = ap (fault_where is_there) (sym (node-parts t))
+
+-- its collections are those of its operator and those of its inputs
+pub searched_in-parts : (list : List ByteList) (t : ExprTree)
+    → fold with_name list (searched_in t)
+    ≡ fold with_name (fold with_name list (read_by (operator_in t)))
+    (all_searched (inputs_of (inputs_in t)))
+searched_in-parts list t =
+    ap (λ w. fold with_name list (searched_in w)) (sym (node-parts t))
+    ∙ fold-append with_name list (read_by (operator_in t))
+    (all_searched (inputs_of (inputs_in t)))
+
+-- the orders so far with one more, and those to come, are all
+pub orders_more : (exprs : List ExprTree) (k : ℕ) (e : ExprTree) (so_far : List Order) (o : Order)
+    → k < length exprs → e ≡ get_or exprs k e → o ≡ order_of e
+    → so_far ++ orders_of (inputs_of (drop k exprs)) ≡ orders_of (inputs_of exprs)
+    → (so_far ++ o ∷ []) ++ orders_of (inputs_of (drop (k + 1) exprs))
+    ≡ orders_of (inputs_of exprs)
+orders_more exprs k e so_far o lt is order all =
+    let rest = orders_of (inputs_of (drop (k + 1) exprs)) in
+    append_assoc so_far (o ∷ []) rest
+    ∙ ap (λ w. so_far ++ w)
+    (ap (λ x. x ∷ rest) (order ∙ ap order_of is)
+    ∙ sym (at_drop_more (λ r. orders_of (inputs_of r)) exprs k e lt))
+    ∙ all
+
+-- the first fault so far or of one more, or else of those to come, is that of all
+pub faults_more : (is_there : ByteList → Bool) (exprs : List ExprTree) (k : ℕ) (e : ExprTree)
+    (so_far more : Option CheckFault) → k < length exprs → e ≡ get_or exprs k e
+    → more ≡ fault_where is_there e
+    → option_or so_far (faults_where is_there (inputs_of (drop k exprs)))
+    ≡ faults_where is_there (inputs_of exprs)
+    → option_or (option_or so_far more)
+    (faults_where is_there (inputs_of (drop (k + 1) exprs)))
+    ≡ faults_where is_there (inputs_of exprs)
+faults_more is_there exprs k e so_far more lt is fault all =
+    let rest = faults_where is_there (inputs_of (drop (k + 1) exprs)) in
+    option_or-assoc so_far more rest
+    ∙ ap (option_or so_far)
+    (ap (λ x. option_or x rest) (fault ∙ ap (fault_where is_there) is)
+    ∙ sym (at_drop_more (λ r. faults_where is_there (inputs_of r)) exprs k e lt))
+    ∙ all
+
+-- with the collections of an input added, those of the inputs behind it are still to be added
+pub searched_more : (list : List ByteList) (exprs : List ExprTree) (k : ℕ) (e : ExprTree)
+    → k < length exprs → e ≡ get_or exprs k e
+    → fold with_name list (all_searched (inputs_of (drop k exprs)))
+    ≡ fold with_name (fold with_name list (searched_in e))
+    (all_searched (inputs_of (drop (k + 1) exprs)))
+searched_more list exprs k e lt is =
+    let rest = all_searched (inputs_of (drop (k + 1) exprs)) in
+    ap (fold with_name list)
+    (at_drop_more (λ r. all_searched (inputs_of r)) exprs k e lt
+    ∙ ap (λ x. searched_in x ++ rest) (sym is))
+    ∙ fold-append with_name list (searched_in e) rest
 
 -- names that are added one by one count once
 pub once-fold : (names more : List ByteList)

@@ -1,17 +1,20 @@
 -- Why an expression may not be evaluated: the first fault of the walk, a call before its inputs,
 -- inputs from the left to the right (own).
-use Rattle.std.specs.Prelude.{◌++◌, Bool, true, false, ◌&&◌, ◌||◌, List, [], ◌∷◌, Option, Some}
-use Rattle.std.specs.Prelude.{None}
-use Rattle.std.specs.Prelude.{bytes_eq, codes, if◌then◌else◌}
-use Rattle.std.specs.List.{join_by, list_all}
+use Rattle.std.specs.Prelude.{◌++◌, Bool, true, false, List, [], ◌∷◌, Option, Some, None}
+use Rattle.std.specs.Prelude.{codes, if◌then◌else◌}
+use Rattle.std.specs.List.{join_by}
 use Rattle.std.specs.Option.{option_or}
+use Rattle.tuple_values.specs.Collections.{is_known}
 use Rattle.tuple_values.specs.Document.{ByteList, is_named}
 use Rattle.tuple_values.specs.declared.names.NameShards.{NameShards}
 use Rattle.sort_spec.specs.Texts.{direction_word}
 use Rattle.sort_spec.specs.declared.term.SortTerm.{SortTerm}
-use Rattle.expr_plan.specs.ExprTree.{ExprTree, search, tuple, select, having, sort, top}
-use Rattle.expr_plan.specs.ExprTree.{unique, merge, reduce, rollup, ExprTrees, no_exprs, an_expr}
-use Rattle.expr_check.specs.Orders.{order_of, orders_of}
+use Rattle.expr_types.specs.ExprTree.{Operator, search, tuple, select, having, sort, top, unique}
+use Rattle.expr_types.specs.ExprTree.{merge, reduce, rollup, inner_join, left_outer_join, intersect}
+use Rattle.expr_types.specs.ExprTree.{complement, hash_join, outer_hash_join, in_parallel, topic}
+use Rattle.expr_types.specs.ExprTree.{update, commit, daemon}
+use Rattle.expr_types.specs.ExprTree.{ExprTree, node, ExprTrees, no_exprs, an_expr}
+use Rattle.expr_check.specs.Orders.{orders_of}
 use Rattle.expr_check.specs.Needs.{meets_sort, meets_names}
 use Rattle.expr_check.specs.declared.order.Order.{Order}
 use Rattle.expr_check.specs.declared.order.Order.TheVariants.{Any, By}
@@ -19,11 +22,6 @@ use Rattle.expr_check.specs.declared.fault.CheckFault.{CheckFault}
 use Rattle.expr_check.specs.declared.fault.CheckFault.TheVariants.{UnknownCollection}
 use Rattle.expr_check.specs.declared.fault.CheckFault.TheVariants.{SortFieldNotInFl}
 use Rattle.expr_check.specs.declared.fault.CheckFault.TheVariants.{NotSorted, OutOfMemory}
-
--- whether there is a collection of this name
-abbrev pub is_known : ByteList → List NameShards → Bool
-is_known name [] = false
-is_known name (n ∷ names) = bytes_eq n.name name || is_known name names
 
 -- the first field of a sort that isn't among the names
 abbrev pub field_outside : List SortTerm → List ByteList → Option ByteList
@@ -37,10 +35,10 @@ field_fault None = None
 field_fault (Some field) = Some (SortFieldNotInFl field)
 
 -- the first fault of a search: its collection isn't there, or a field of its sort isn't in `fl`
-abbrev pub search_fault : List NameShards → ByteList → List SortTerm → List ByteList
+abbrev pub search_fault : (ByteList → Bool) → ByteList → List SortTerm → List ByteList
     → Option CheckFault
-search_fault names collection terms fl =
-    if is_known collection names then field_fault (field_outside terms fl)
+search_fault is_there collection terms fl =
+    if is_there collection then field_fault (field_outside terms fl)
     else Some (UnknownCollection collection)
 
 -- a term as a text
@@ -80,35 +78,56 @@ names_fault function names order =
 abbrev pub sort_fault : List SortTerm → Order → Option CheckFault
 sort_fault on order = order_fault (codes "merge") (sort_text on) (meets_sort on order) order
 
--- the fault of a merge at the first of its inputs that has one
-abbrev pub merge_fault : List SortTerm → List Order → Option CheckFault
-merge_fault on [] = None
-merge_fault on (order ∷ orders) = option_or (sort_fault on order) (merge_fault on orders)
+-- the first fault of several things, by the fault that each has
+abbrev pub first_fault : {X : Type 0} → (X → Option CheckFault) → List X → Option CheckFault
+first_fault fault [] = None
+first_fault fault (x ∷ xs) = option_or (fault x) (first_fault fault xs)
 
--- the first fault of an expression over collections of these names; of functions that no call stands
--- for yet none is told
+-- the fault of an operator over inputs of these orders, where these collections are there; of what
+-- no call stands for yet none is told
+abbrev pub fault_at : (ByteList → Bool) → Operator → List Order → Option CheckFault
+fault_at is_there (search p) orders = search_fault is_there p.collection p.sort p.fl
+fault_at is_there (tuple fields) orders = None
+fault_at is_there (select items) orders = None
+fault_at is_there (having condition) orders = None
+fault_at is_there (sort by) orders = None
+fault_at is_there (top n by) orders = None
+fault_at is_there (unique over) orders = first_fault (names_fault (codes "unique") over) orders
+fault_at is_there (merge on) orders = first_fault (sort_fault on) orders
+fault_at is_there (reduce by op) orders = first_fault (names_fault (codes "reduce") by) orders
+fault_at is_there (rollup over metrics) orders =
+    first_fault (names_fault (codes "rollup") over) orders
+fault_at is_there (inner_join on) orders = None
+fault_at is_there (left_outer_join on) orders = None
+fault_at is_there (intersect on) orders = None
+fault_at is_there (complement on) orders = None
+fault_at is_there (hash_join on) orders = None
+fault_at is_there (outer_hash_join on) orders = None
+fault_at is_there (in_parallel collection workers by) orders = None
+fault_at is_there (topic p) orders = None
+fault_at is_there (update dest size) orders = None
+fault_at is_there (commit dest size) orders = None
+fault_at is_there (daemon id interval terminate) orders = None
+
+-- the first fault of an expression, where these collections are there
 abbrev mutual
-  pub fault_of : List NameShards → ExprTree → Option CheckFault
-  fault_of names (search p) = search_fault names p.collection p.sort p.fl
-  fault_of names (tuple fields) = None
-  fault_of names (select e items) = fault_of names e
-  fault_of names (having e condition) = fault_of names e
-  fault_of names (sort e by) = fault_of names e
-  fault_of names (top e n by) = fault_of names e
-  fault_of names (unique e over) =
-      option_or (names_fault (codes "unique") over (order_of e)) (fault_of names e)
-  fault_of names (merge inputs on) =
-      option_or (merge_fault on (orders_of inputs)) (faults_of names inputs)
-  fault_of names (reduce e by op) =
-      option_or (names_fault (codes "reduce") by (order_of e)) (fault_of names e)
-  fault_of names (rollup e over metrics) =
-      option_or (names_fault (codes "rollup") over (order_of e)) (fault_of names e)
-  fault_of names _ = None
+  pub fault_where : (ByteList → Bool) → ExprTree → Option CheckFault
+  fault_where is_there (node op inputs) =
+      option_or (fault_at is_there op (orders_of inputs)) (faults_where is_there inputs)
 
-  -- the first fault of the inputs of a merge
-  pub faults_of : List NameShards → ExprTrees → Option CheckFault
-  faults_of names no_exprs = None
-  faults_of names (an_expr e exprs) = option_or (fault_of names e) (faults_of names exprs)
+  -- the first fault of inputs
+  pub faults_where : (ByteList → Bool) → ExprTrees → Option CheckFault
+  faults_where is_there no_exprs = None
+  faults_where is_there (an_expr e exprs) =
+      option_or (fault_where is_there e) (faults_where is_there exprs)
+
+-- the first fault of an expression over collections of these names
+abbrev pub fault_of : List NameShards → ExprTree → Option CheckFault
+fault_of names t = fault_where (λ name. is_known name names) t
+
+-- the first fault of an expression but that of a collection
+abbrev pub own_fault : ExprTree → Option CheckFault
+own_fault t = fault_where (λ name. true) t
 
 -- what a reply says of a fault
 abbrev pub fault_text : CheckFault → ByteList
@@ -117,25 +136,3 @@ fault_text (SortFieldNotInFl field) = codes "SortFieldNotInFl" ++ codes " " ++ f
 fault_text (NotSorted function needed has) =
     codes "NotSorted " ++ function ++ codes " needs " ++ needed ++ codes " has " ++ has
 fault_text OutOfMemory = codes "out of memory"
-
--- each input has the order that its function needs, and the fields of a search's sort are in `fl`,
--- which are all faults but that of a collection; nothing is asked of functions that no call stands for
--- yet
-abbrev mutual
-  pub are_met : ExprTree → Bool
-  are_met (search p) = list_all (λ term. is_named term.field p.fl) p.sort
-  are_met (tuple fields) = true
-  are_met (select e items) = are_met e
-  are_met (having e condition) = are_met e
-  are_met (sort e by) = are_met e
-  are_met (top e n by) = are_met e
-  are_met (unique e over) = meets_names over (order_of e) && are_met e
-  are_met (merge inputs on) = list_all (meets_sort on) (orders_of inputs) && are_all_met inputs
-  are_met (reduce e by op) = meets_names by (order_of e) && are_met e
-  are_met (rollup e over metrics) = meets_names over (order_of e) && are_met e
-  are_met _ = true
-
-  -- the same for each input of a merge
-  pub are_all_met : ExprTrees → Bool
-  are_all_met no_exprs = true
-  are_all_met (an_expr e exprs) = are_met e && are_all_met exprs

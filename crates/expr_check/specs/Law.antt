@@ -1,8 +1,8 @@
 -- What is so of an expression without a fault, over all documents (own).
 use Rattle.std.specs.Prelude.{◌≡◌, List, None}
 use Rattle.tuple_values.specs.declared.names.NameShards.{NameShards}
-use Rattle.expr_plan.specs.ExprTree.{ExprTree}
-use Rattle.expr_plan.specs.Lists.{Collections, list_of, AreSorted, AreKeysKept}
+use Rattle.expr_types.specs.ExprTree.{ExprTree}
+use Rattle.expr_types.specs.Lists.{Collections, list_of, AreSorted, AreKeysKept}
 use Rattle.expr_check.specs.Orders.{IsInOrder, order_of}
 use Rattle.expr_check.specs.Faults.{fault_of}
 

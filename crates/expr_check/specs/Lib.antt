@@ -2,6 +2,5 @@ pub mod Orders
 pub mod Needs
 pub mod Faults
 pub mod Reads
-pub mod Kept
 pub mod Views
 pub mod Law

@@ -7,11 +7,13 @@ use Rattle.tuple_values.specs.Document.{ByteList, Doc}
 use Rattle.sort_spec.specs.Sorting.{IsAscending}
 use Rattle.sort_spec.specs.Terms.{less}
 use Rattle.sort_spec.specs.declared.term.SortTerm.{SortTerm}
-use Rattle.expr_plan.specs.declared.item.Item.{Item}
-use Rattle.expr_plan.specs.declared.item.Item.TheVariants.{Field, Replace, Concat}
-use Rattle.expr_plan.specs.ExprTree.{ExprTree, search, tuple, select, having, sort, top, unique}
-use Rattle.expr_plan.specs.ExprTree.{merge}
-use Rattle.expr_plan.specs.ExprTree.{reduce, rollup, ExprTrees, no_exprs, an_expr}
+use Rattle.expr_types.specs.declared.item.Item.{Item}
+use Rattle.expr_types.specs.declared.item.Item.TheVariants.{Field, Replace, Concat}
+use Rattle.expr_types.specs.ExprTree.{Operator, search, tuple, select, having, sort, top, unique}
+use Rattle.expr_types.specs.ExprTree.{merge, reduce, rollup, inner_join, left_outer_join, intersect}
+use Rattle.expr_types.specs.ExprTree.{complement, hash_join, outer_hash_join, in_parallel, topic}
+use Rattle.expr_types.specs.ExprTree.{update, commit, daemon, first_or}
+use Rattle.expr_types.specs.ExprTree.{ExprTree, node, ExprTrees, no_exprs, an_expr}
 use Rattle.expr_check.specs.declared.order.Order.{Order}
 use Rattle.expr_check.specs.declared.order.Order.TheVariants.{Any, By}
 
@@ -72,22 +74,37 @@ abbrev pub first_terms : ℕ → Order → Order
 first_terms k Any = Any
 first_terms k (By terms) = By (take k terms)
 
--- the order of an expression; of functions that no call stands for yet it is that of no term
+-- the order that an operator gives of the orders of its inputs; the first of no order is any, and
+-- what no call stands for yet is in the order of no term
+abbrev pub order_given : Operator → List Order → Order
+order_given (search p) orders = By p.sort
+order_given (tuple fields) orders = Any
+order_given (select items) orders = kept_order items (first_or Any orders)
+order_given (having condition) orders = first_or Any orders
+order_given (sort by) orders = By by
+order_given (top n by) orders = By by
+order_given (unique over) orders = first_or Any orders
+order_given (merge on) orders = By on
+order_given (reduce by op) orders = first_terms (length by) (first_or Any orders)
+order_given (rollup over metrics) orders = first_terms (length over) (first_or Any orders)
+order_given (inner_join on) orders = By []
+order_given (left_outer_join on) orders = By []
+order_given (intersect on) orders = By []
+order_given (complement on) orders = By []
+order_given (hash_join on) orders = By []
+order_given (outer_hash_join on) orders = By []
+order_given (in_parallel collection workers by) orders = By []
+order_given (topic p) orders = By []
+order_given (update dest size) orders = By []
+order_given (commit dest size) orders = By []
+order_given (daemon id interval terminate) orders = By []
+
+-- the order of an expression
 abbrev mutual
   pub order_of : ExprTree → Order
-  order_of (search p) = By p.sort
-  order_of (tuple fields) = Any
-  order_of (select e items) = kept_order items (order_of e)
-  order_of (having e condition) = order_of e
-  order_of (sort e by) = By by
-  order_of (top e n by) = By by
-  order_of (unique e over) = order_of e
-  order_of (merge inputs on) = By on
-  order_of (reduce e by op) = first_terms (length by) (order_of e)
-  order_of (rollup e over metrics) = first_terms (length over) (order_of e)
-  order_of _ = By []
+  order_of (node op inputs) = order_given op (orders_of inputs)
 
-  -- the orders of the inputs of a merge
+  -- the orders of inputs
   pub orders_of : ExprTrees → List Order
   orders_of no_exprs = []
   orders_of (an_expr e exprs) = order_of e ∷ orders_of exprs

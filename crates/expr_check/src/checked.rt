@@ -1,16 +1,15 @@
 // Expressions that may be evaluated.
-ghost use Rattle.std.specs.Prelude.{◌≡◌, true};
+ghost use Rattle.std.specs.Prelude.{◌≡◌, true, is_none};
 ghost use Rattle.std.specs.Coded.{Coded-set};
-ghost use Rattle.expr_plan.specs.Lists.{AreKeysKept};
-ghost use Rattle.expr_plan.specs.ExprViews.{expr_tree};
-ghost use Rattle.expr_check.specs.Kept.{kept-prop};
+ghost use Rattle.expr_types.specs.Lists.{are_kept};
+ghost use Rattle.expr_types.specs.ExprViews.{expr_tree};
 ghost use Rattle.expr_check.specs.Orders.{order_of};
-ghost use Rattle.expr_check.specs.Faults.{are_met};
+ghost use Rattle.expr_check.specs.Faults.{own_fault};
 ghost use Rattle.expr_check.specs.Reads.{collections_of};
 
 use crate::Order;
 use crate::reads::are_known;
-use expr_plan::Expr;
+use expr_types::Expr;
 use tuple_values::{FieldList, Names};
 
 /// An expression that may be evaluated: each input has the order that its function needs.
@@ -19,22 +18,22 @@ pub struct Checked {
     expr: Expr,
     order: Order,
     collections: FieldList,
-    pub ghost kept: { AreKeysKept (expr_tree expr) } by { kept-prop (expr_tree expr) },
-    pub ghost met: { are_met (expr_tree expr) ≡ true },
+    pub ghost kept: { are_kept (expr_tree expr) ≡ true },
+    pub ghost met: { is_none (own_fault (expr_tree expr)) ≡ true },
     pub ghost ordered: { order ≡ order_of (expr_tree expr) } by { Coded-set order-code _ _ },
     pub ghost reads: { collections ≡ collections_of (expr_tree expr) },
 }
 
 impl Checked {
-    ghost use Rattle.expr_plan.specs.Lists.{Collections, list_of, AreSorted};
+    ghost use Rattle.expr_types.specs.Lists.{Collections, list_of, AreSorted};
     ghost use Rattle.expr_check.specs.Orders.{IsInOrder};
     ghost use Rattle.expr_check.specs.Reads.{are_known};
     ghost use Rattle.expr_check.specs.Views.{expr_of, tree_of};
 
     // The expression with what was found of it.
     pub(crate) fn new(expr: Expr, order: Order, collections: FieldList) -> Checked
-        requires kept { AreKeysKept (expr_tree expr) }
-        requires met { are_met (expr_tree expr) ≡ true }
+        requires kept { are_kept (expr_tree expr) ≡ true }
+        requires met { is_none (own_fault (expr_tree expr)) ≡ true }
         requires ordered { order ≡ order_of (expr_tree expr) }
         requires reads { collections ≡ collections_of (expr_tree expr) }
         ensures { expr_of result ≡ expr }

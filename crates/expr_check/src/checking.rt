@@ -1,16 +1,17 @@
 // The check of an expression.
-ghost use Rattle.std.specs.Prelude.{◌≡◌, ◌≢◌, None, Some, IfOk, IfErr, OnOk};
-ghost use Rattle.expr_plan.specs.Lists.{AreKeysKept};
-ghost use Rattle.expr_plan.specs.ExprViews.{expr_tree};
+ghost use Rattle.std.specs.Prelude.{◌≡◌, ◌≢◌, None, Some, IfOk, IfErr, OnOk, IsTrue};
+ghost use Rattle.expr_types.specs.Lists.{AreKeysKept};
+ghost use Rattle.expr_types.specs.ExprViews.{expr_tree};
 ghost use Rattle.expr_check.specs.Faults.{fault_of};
 ghost use Rattle.expr_check.specs.Law.{InputsAreSorted, ListsAreInOrder};
+ghost use Rattle.expr_check.specs.Reads.{named_in, are_known};
 ghost use Rattle.expr_check.specs.Views.{expr_of};
 ghost use Rattle.expr_check.specs.declared.fault.CheckFault.TheVariants.{OutOfMemory};
 
 use crate::reads::add_searched;
 use crate::walk::{Walked, walk};
 use crate::{CheckFault, Checked};
-use expr_plan::Expr;
+use expr_types::Expr;
 use std::alloc::Global;
 use tuple_values::{FieldList, Names};
 
@@ -24,6 +25,9 @@ pub fn check(alloc: Global, expr: Expr, names: &Names) -> Result<Checked, CheckF
     ensures ok { OnOk result (fault_of names.now (expr_tree expr) ≡ None) }
     ensures err { IfErr result (λ fault. fault ≢ OutOfMemory
         → fault_of names.now (expr_tree expr) ≡ Some fault) }
+
+    // Each collection that the expression names is there.
+    ensures stands { OnOk result (IsTrue (are_known (named_in (expr_tree expr)) names.now)) }
 
     // What is checked is this expression.
     ensures whole { IfOk result (λ checked. expr_of checked ≡ expr) }

@@ -1,7 +1,7 @@
 // Which orders a function needs of its inputs.
 ghost use Rattle.std.specs.Prelude.{◌≡◌, IfOk};
 ghost use Rattle.expr_check.specs.Needs.{meets_sort, meets_names, names_first};
-ghost use Rattle.expr_check.specs.Faults.{names_fault, sort_fault};
+ghost use Rattle.expr_check.specs.Faults.{names_fault, sort_fault, first_fault};
 
 use crate::texts::{has_text, names_text, sort_text};
 use crate::{CheckFault, Order};
@@ -41,8 +41,8 @@ fn meets_sort(on: &SortSpec, order: &Order) -> bool
     }
 }
 
-/// The fault of a function that needs the names as first fields, at an input of this order.
-pub(crate) fn names_fault(
+// The fault of a function that needs the names as first fields, at an input of this order.
+fn names_fault(
     alloc: Global,
     function: &str,
     names: &FieldList,
@@ -63,12 +63,27 @@ pub(crate) fn names_fault(
     }))
 }
 
-/// The fault of a merge at an input of this order.
-pub(crate) fn sort_fault(
+/// The fault of a function that needs the names as first fields, at the first input that has one.
+pub(crate) fn names_faults(
     alloc: Global,
-    on: &SortSpec,
-    order: &Order,
+    function: &str,
+    names: &FieldList,
+    orders: &[Order],
 ) -> Result<Option<CheckFault>, Memory>
+    ensures { IfOk result (λ fault. fault
+        ≡ first_fault (names_fault function.now names.now) orders.now) }
+{
+    for order in orders {
+        let fault = names_fault(alloc, function, names, order)?;
+        if fault.is_some() {
+            return Ok(fault);
+        }
+    }
+    Ok(None)
+}
+
+// The fault of a merge at an input of this order.
+fn sort_fault(alloc: Global, on: &SortSpec, order: &Order) -> Result<Option<CheckFault>, Memory>
     ensures { IfOk result (λ fault. fault ≡ sort_fault on.now order.now) }
 {
     if meets_sort(on, order) {
@@ -82,4 +97,21 @@ pub(crate) fn sort_fault(
         needed,
         has,
     }))
+}
+
+/// The fault of a merge at the first input that has one.
+pub(crate) fn sort_faults(
+    alloc: Global,
+    on: &SortSpec,
+    orders: &[Order],
+) -> Result<Option<CheckFault>, Memory>
+    ensures { IfOk result (λ fault. fault ≡ first_fault (sort_fault on.now) orders.now) }
+{
+    for order in orders {
+        let fault = sort_fault(alloc, on, order)?;
+        if fault.is_some() {
+            return Ok(fault);
+        }
+    }
+    Ok(None)
 }

@@ -4,7 +4,7 @@ ghost use Rattle.expr_check.specs.Orders.{touches, is_touched_once, new_name};
 ghost use Rattle.expr_check.specs.Orders.{kept_terms, kept_order, first_terms};
 
 use crate::Order;
-use expr_plan::{Item, Items};
+use expr_types::{Item, Items};
 use sort_spec::{SortSpec, SortTerm};
 use std::alloc::Global;
 use tuple_values::{Memory, Text, TryCopy};

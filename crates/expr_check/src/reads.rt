@@ -1,11 +1,11 @@
 // The collections that an expression reads.
-ghost use Rattle.std.specs.Prelude.{◌≡◌, OnOk, map, fold};
-ghost use Rattle.expr_plan.specs.ExprTree.{inputs_of};
-ghost use Rattle.expr_plan.specs.ExprViews.{expr_tree};
-ghost use Rattle.expr_check.specs.Reads.{with_name, searched_in, all_searched, are_known};
+ghost use Rattle.std.specs.Prelude.{◌≡◌, OnOk, fold};
+ghost use Rattle.expr_types.specs.ExprTree.{operator_in};
+ghost use Rattle.expr_types.specs.ExprViews.{expr_tree};
+ghost use Rattle.expr_check.specs.Reads.{with_name, read_by, searched_in, are_known};
 
 use crate::walk::is_known;
-use expr_plan::Expr;
+use expr_types::Expr;
 use std::alloc::Global;
 use tuple_values::{FieldList, Memory, Names, Text, TryCopy};
 
@@ -19,33 +19,43 @@ fn add_name(alloc: Global, name: &Text, list: &mut FieldList) -> Result<(), Memo
     Ok(())
 }
 
-/// Adds the collections of the expression's searches at the end, each where it isn't there.
-#[cycle(reading)]
-pub(crate) fn add_searched(alloc: Global, expr: &Expr, list: &mut FieldList) -> Result<(), Memory>
-    ensures { OnOk result (list.new ≡ fold with_name list.old (searched_in (expr_tree expr.now))) }
+// Adds the collection that the function reads.
+fn add_read(alloc: Global, expr: &Expr, list: &mut FieldList) -> Result<(), Memory>
+    ensures { OnOk result (list.new
+        ≡ fold with_name list.old (read_by (operator_in (expr_tree expr.now)))) }
 {
     match expr {
         Expr::Search { collection, .. } => add_name(alloc, collection, list),
-        Expr::Select { input, .. }
-        | Expr::Having { input, .. }
-        | Expr::Sort { input, .. }
-        | Expr::Top { input, .. }
-        | Expr::Unique { input, .. }
-        | Expr::Reduce { input, .. }
-        | Expr::Rollup { input, .. } => add_searched(alloc, input, list),
-        Expr::Merge { inputs, .. } => add_all_searched(alloc, inputs, list),
-        _ => Ok(()),
+        Expr::Tuple { .. }
+        | Expr::Select { .. }
+        | Expr::Having { .. }
+        | Expr::Sort { .. }
+        | Expr::Top { .. }
+        | Expr::Unique { .. }
+        | Expr::Merge { .. }
+        | Expr::Reduce { .. }
+        | Expr::Rollup { .. }
+        | Expr::InnerJoin { .. }
+        | Expr::LeftOuterJoin { .. }
+        | Expr::Intersect { .. }
+        | Expr::Complement { .. }
+        | Expr::HashJoin { .. }
+        | Expr::OuterHashJoin { .. }
+        | Expr::Parallel { .. }
+        | Expr::Topic { .. }
+        | Expr::Update { .. }
+        | Expr::Commit { .. }
+        | Expr::Daemon { .. } => Ok(()),
     }
 }
 
-#[cycle(reading)]
-#[tactic(auto, using(crate::proofs::WalkLemmas::read_steps))]
-fn add_all_searched(alloc: Global, inputs: &[Expr], list: &mut FieldList) -> Result<(), Memory>
-    ensures { OnOk result (list.new
-        ≡ fold with_name list.old (all_searched (inputs_of (map expr_tree inputs.now)))) }
+/// Adds the collections of the expression's searches at the end, each where it isn't there.
+pub(crate) fn add_searched(alloc: Global, expr: &Expr, list: &mut FieldList) -> Result<(), Memory>
+    ensures { OnOk result (list.new ≡ fold with_name list.old (searched_in (expr_tree expr.now))) }
 {
-    for input in inputs {
-        add_searched(alloc, input, list)?;
+    add_read(alloc, expr, list)?;
+    for k in 0..expr.input_count() {
+        add_searched(alloc, expr.input(k), list)?;
     }
     Ok(())
 }

@@ -1,18 +1,17 @@
 // The walk over an expression: its order, and its first fault.
-ghost use Rattle.std.specs.Prelude.{◌≡◌, IfOk, map, option_map, codes, length};
-ghost use Rattle.expr_plan.specs.ExprTree.{inputs_of};
-ghost use Rattle.expr_plan.specs.ExprViews.{expr_tree};
-ghost use Rattle.std.specs.Option.{option_or};
-ghost use Rattle.expr_check.specs.Orders.{order_of, orders_of, kept_order, first_terms};
-ghost use Rattle.expr_check.specs.declared.order.Order.TheVariants.{By};
-ghost use Rattle.expr_check.specs.Faults.{is_known, field_outside, search_fault, names_fault};
-ghost use Rattle.expr_check.specs.Faults.{merge_fault};
-ghost use Rattle.expr_check.specs.Faults.{fault_of, faults_of};
+ghost use Rattle.std.specs.Prelude.{◌≡◌, IfOk, option_map};
+ghost use Rattle.tuple_values.specs.Collections.{is_known};
+ghost use Rattle.expr_types.specs.ExprTree.{inputs_in, inputs_of, operator_in, first_or};
+ghost use Rattle.expr_types.specs.ExprViews.{expr_tree};
+ghost use Rattle.expr_check.specs.Orders.{order_of, orders_of, order_given};
+ghost use Rattle.expr_check.specs.Faults.{field_outside, search_fault, fault_at};
+ghost use Rattle.expr_check.specs.Faults.{fault_where, faults_where};
+ghost use Rattle.expr_check.specs.declared.order.Order.TheVariants.{Any};
 
-use crate::needs::{names_fault, sort_fault};
+use crate::needs::{names_faults, sort_faults};
 use crate::orders::{first_terms, kept_order};
 use crate::{CheckFault, Order};
-use expr_plan::{Expr, Items};
+use expr_types::Expr;
 use sort_spec::SortSpec;
 use std::alloc::Global;
 use tuple_values::{FieldList, Memory, Names, Text, TryCopy};
@@ -26,16 +25,20 @@ pub(crate) struct Walked {
     pub(crate) fault: Option<CheckFault>,
 }
 
+// What is known of the inputs of an expression.
+#[derive(Debug, Drop)]
+struct WalkedInputs {
+    // Their orders.
+    orders: Vec<Order>,
+    // Their first fault.
+    fault: Option<CheckFault>,
+}
+
 /// Whether there is a collection of this name.
 pub(crate) fn is_known(name: &str, names: &Names) -> bool
     ensures { result ≡ is_known name.now names.now }
 {
-    for entry in names.as_slice() {
-        if entry.name.as_str() == name {
-            return true;
-        }
-    }
-    false
+    names.find(name.as_bytes()).is_some()
 }
 
 // The first field of a sort that isn't among the names.
@@ -50,97 +53,39 @@ fn field_outside<'a>(sort: &'a SortSpec, fl: &FieldList) -> Option<&'a Text>
     None
 }
 
-// What is known of a search.
-fn searched(
+// The fault of a search.
+fn search_fault(
     alloc: Global,
     collection: &Text,
     sort: &SortSpec,
     fl: &FieldList,
     names: &Names,
-) -> Result<Walked, Memory>
-    ensures order { IfOk result (λ walked. walked.order ≡ By sort.now) }
-    ensures fault { IfOk result (λ walked. walked.fault
-        ≡ search_fault names.now collection.now sort.now fl.now) }
+) -> Result<Option<CheckFault>, Memory>
+    ensures { IfOk result (λ fault. fault
+        ≡ search_fault (λ name. is_known name names.now) collection.now sort.now fl.now) }
 {
-    let fault = if !is_known(collection.as_str(), names) {
+    if !is_known(collection.as_str(), names) {
         let name = collection.copy(alloc)?;
-        Some(CheckFault::UnknownCollection { name })
-    } else {
-        match field_outside(sort, fl) {
-            None => None,
-            Some(field) => {
-                let field = field.copy(alloc)?;
-                Some(CheckFault::SortFieldNotInFl { field })
-            }
+        return Ok(Some(CheckFault::UnknownCollection { name }));
+    }
+    match field_outside(sort, fl) {
+        None => Ok(None),
+        Some(field) => {
+            let field = field.copy(alloc)?;
+            Ok(Some(CheckFault::SortFieldNotInFl { field }))
         }
-    };
-    let order = Order::By(sort.copy(alloc)?);
-    Ok(Walked { order, fault })
+    }
 }
 
-// What is known of a select over an input.
-fn selected(alloc: Global, items: &Items, input: Walked) -> Result<Walked, Memory>
-    ensures order { IfOk result (λ walked. walked.order ≡ kept_order items.now input.order) }
-    ensures fault { IfOk result (λ walked. walked.fault ≡ input.fault) }
-{
-    let order = kept_order(alloc, items, &input.order)?;
-    Ok(Walked {
-        order,
-        fault: input.fault,
-    })
-}
-
-// What is known of a sort or a top over an input.
-fn sorted(alloc: Global, by: &SortSpec, input: Walked) -> Result<Walked, Memory>
-    ensures order { IfOk result (λ walked. walked.order ≡ By by.now) }
-    ensures fault { IfOk result (λ walked. walked.fault ≡ input.fault) }
-{
-    let order = Order::By(by.copy(alloc)?);
-    Ok(Walked {
-        order,
-        fault: input.fault,
-    })
-}
-
-// What is known of a unique over an input.
-fn made_unique(alloc: Global, over: &FieldList, input: Walked) -> Result<Walked, Memory>
-    ensures order { IfOk result (λ walked. walked.order ≡ input.order) }
-    ensures fault { IfOk result (λ walked. walked.fault
-        ≡ option_or (names_fault (codes "unique") over.now input.order) input.fault) }
-{
-    let own = names_fault(alloc, "unique", over, &input.order)?;
-    Ok(Walked {
-        order: input.order,
-        fault: own.or(input.fault),
-    })
-}
-
-// What is known of a reduce or a rollup, as the function is named, over an input.
-fn grouped(
+// The fault of the function itself over inputs of these orders.
+fn fault_at(
     alloc: Global,
-    function: &str,
-    names: &FieldList,
-    input: Walked,
-) -> Result<Walked, Memory>
-    ensures order { IfOk result (λ walked. walked.order
-        ≡ first_terms (length names.now) input.order) }
-    ensures fault { IfOk result (λ walked. walked.fault
-        ≡ option_or (names_fault function.now names.now input.order) input.fault) }
-{
-    let own = names_fault(alloc, function, names, &input.order)?;
-    let order = first_terms(alloc, names.len(), &input.order)?;
-    Ok(Walked {
-        order,
-        fault: own.or(input.fault),
-    })
-}
-
-/// The order of an expression, and its first fault.
-#[cycle(walking)]
-pub(crate) fn walk(alloc: Global, expr: &Expr, names: &Names) -> Result<Walked, Memory>
-    ensures order { IfOk result (λ walked. walked.order ≡ order_of (expr_tree expr.now)) }
-    ensures fault { IfOk result (λ walked. walked.fault
-        ≡ fault_of names.now (expr_tree expr.now)) }
+    expr: &Expr,
+    orders: &[Order],
+    names: &Names,
+) -> Result<Option<CheckFault>, Memory>
+    ensures { IfOk result (λ fault. fault ≡ fault_at (λ name. is_known name names.now)
+        (operator_in (expr_tree expr.now)) orders.now) }
 {
     match expr {
         Expr::Search {
@@ -148,49 +93,101 @@ pub(crate) fn walk(alloc: Global, expr: &Expr, names: &Names) -> Result<Walked, 
             fl,
             sort,
             ..
-        } => searched(alloc, collection, sort, fl, names),
-        Expr::Tuple { .. } => Ok(Walked {
-            order: Order::Any,
-            fault: None,
-        }),
-        Expr::Select { input, items } => selected(alloc, items, walk(alloc, input, names)?),
-        Expr::Having { input, .. } => walk(alloc, input, names),
-        Expr::Sort { input, by } => sorted(alloc, by, walk(alloc, input, names)?),
-        Expr::Top { input, sort, .. } => sorted(alloc, sort, walk(alloc, input, names)?),
-        Expr::Unique { input, over } => made_unique(alloc, over, walk(alloc, input, names)?),
-        Expr::Merge { inputs, on } => merged(alloc, inputs, on, names),
-        Expr::Reduce { input, by, .. } => grouped(alloc, "reduce", by, walk(alloc, input, names)?),
-        Expr::Rollup { input, over, .. } => {
-            grouped(alloc, "rollup", over, walk(alloc, input, names)?)
-        }
-        _ => Ok(Walked {
-            order: Order::By(SortSpec::new(alloc)),
-            fault: None,
-        }),
+        } => search_fault(alloc, collection, sort, fl, names),
+        Expr::Unique { over, .. } => names_faults(alloc, "unique", over, orders),
+        Expr::Reduce { by, .. } => names_faults(alloc, "reduce", by, orders),
+        Expr::Rollup { over, .. } => names_faults(alloc, "rollup", over, orders),
+        Expr::Merge { on, .. } => sort_faults(alloc, on, orders),
+        Expr::Tuple { .. }
+        | Expr::Select { .. }
+        | Expr::Having { .. }
+        | Expr::Sort { .. }
+        | Expr::Top { .. }
+        | Expr::InnerJoin { .. }
+        | Expr::LeftOuterJoin { .. }
+        | Expr::Intersect { .. }
+        | Expr::Complement { .. }
+        | Expr::HashJoin { .. }
+        | Expr::OuterHashJoin { .. }
+        | Expr::Parallel { .. }
+        | Expr::Topic { .. }
+        | Expr::Update { .. }
+        | Expr::Commit { .. }
+        | Expr::Daemon { .. } => Ok(None),
     }
 }
 
-// What is known of a merge.
-#[cycle(walking)]
-#[tactic(auto, using(crate::proofs::WalkLemmas::walk_steps))]
-fn merged(alloc: Global, inputs: &[Expr], on: &SortSpec, names: &Names) -> Result<Walked, Memory>
-    ensures order { IfOk result (λ walked. walked.order ≡ By on.now) }
-    ensures fault { IfOk result (λ walked. walked.fault ≡ option_or
-        (merge_fault on.now (orders_of (inputs_of (map expr_tree inputs.now))))
-        (faults_of names.now (inputs_of (map expr_tree inputs.now)))) }
+// The first order, or any where there is none.
+fn first_order(orders: Vec<Order>) -> Order
+    ensures { result ≡ first_or Any orders.items }
 {
-    let mut own = None;
-    let mut below = None;
-    for input in inputs {
-        let walked = walk(alloc, input, names)?;
-        if own.is_none() {
-            own = sort_fault(alloc, on, &walked.order)?;
-        }
-        below = below.or(walked.fault);
+    match orders.into_iter().next() {
+        Some(order) => order,
+        None => Order::Any,
     }
-    let order = Order::By(on.copy(alloc)?);
+}
+
+// The order that the function gives of those of its inputs.
+fn order_given(alloc: Global, expr: &Expr, orders: Vec<Order>) -> Result<Order, Memory>
+    ensures { IfOk result (λ order. order
+        ≡ order_given (operator_in (expr_tree expr.now)) orders.items) }
+{
+    match expr {
+        Expr::Search { sort, .. }
+        | Expr::Sort { by: sort, .. }
+        | Expr::Top { sort, .. }
+        | Expr::Merge { on: sort, .. } => Ok(Order::By(sort.copy(alloc)?)),
+        Expr::Tuple { .. } => Ok(Order::Any),
+        Expr::Select { items, .. } => kept_order(alloc, items, &first_order(orders)),
+        Expr::Having { .. } | Expr::Unique { .. } => Ok(first_order(orders)),
+        Expr::Reduce { by: names, .. } | Expr::Rollup { over: names, .. } => {
+            first_terms(alloc, names.len(), &first_order(orders))
+        }
+        Expr::InnerJoin { .. }
+        | Expr::LeftOuterJoin { .. }
+        | Expr::Intersect { .. }
+        | Expr::Complement { .. }
+        | Expr::HashJoin { .. }
+        | Expr::OuterHashJoin { .. }
+        | Expr::Parallel { .. }
+        | Expr::Topic { .. }
+        | Expr::Update { .. }
+        | Expr::Commit { .. }
+        | Expr::Daemon { .. } => Ok(Order::By(SortSpec::new(alloc))),
+    }
+}
+
+/// The order of an expression, and its first fault.
+#[cycle(walking)]
+pub(crate) fn walk(alloc: Global, expr: &Expr, names: &Names) -> Result<Walked, Memory>
+    ensures order { IfOk result (λ walked. walked.order ≡ order_of (expr_tree expr.now)) }
+    ensures fault { IfOk result (λ walked. walked.fault
+        ≡ fault_where (λ name. is_known name names.now) (expr_tree expr.now)) }
+{
+    let WalkedInputs { orders, fault } = walk_inputs(alloc, expr, names)?;
+    let own = fault_at(alloc, expr, orders.as_slice(), names)?;
+    let order = order_given(alloc, expr, orders)?;
     Ok(Walked {
         order,
-        fault: own.or(below),
+        fault: own.or(fault),
     })
+}
+
+// What is known of the inputs of an expression.
+#[cycle(walking)]
+fn walk_inputs(alloc: Global, expr: &Expr, names: &Names) -> Result<WalkedInputs, Memory>
+    ensures orders { IfOk result (λ walked. walked.orders.items
+        ≡ orders_of (inputs_of (inputs_in (expr_tree expr.now)))) }
+    ensures fault { IfOk result (λ walked. walked.fault
+        ≡ faults_where (λ name. is_known name names.now)
+        (inputs_of (inputs_in (expr_tree expr.now)))) }
+{
+    let mut orders = Vec::new(alloc);
+    let mut fault = None;
+    for k in 0..expr.input_count() {
+        let walked = walk(alloc, expr.input(k), names)?;
+        orders.push(walked.order)?;
+        fault = fault.or(walked.fault);
+    }
+    Ok(WalkedInputs { orders, fault })
 }

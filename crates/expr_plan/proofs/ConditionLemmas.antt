@@ -4,9 +4,9 @@ use Rattle.std.proofs.Common.{Option, Some, None, option_map, append_assoc, appe
 use Rattle.std.proofs.Common.{sym, ◌∙◌}
 use Rattle.std.proofs.lemmas.List.{at_drop_more, at_drop_all, map-append}
 use Rattle.expr_reader.specs.Tree.{ArgTree, trees_of}
-use Rattle.expr_plan.specs.ConditionTree.{ConditionTree}
-use Rattle.expr_plan.specs.ConditionViews.{condition_tree, condition_trees}
-use Rattle.expr_plan.specs.declared.condition.Condition.{Condition}
+use Rattle.expr_types.specs.ConditionTree.{ConditionTree}
+use Rattle.expr_types.specs.ConditionViews.{condition_tree, condition_trees}
+use Rattle.expr_types.specs.declared.condition.Condition.{Condition}
 use Rattle.expr_plan.specs.ConditionReading.{condition_in, conditions_of, and_those}
 
 -- conditions, and then those that were read, if they were

@@ -8,14 +8,14 @@ use Rattle.std.proofs.lemmas.Slice.Eq.{bytes_eq-Decides}
 use Rattle.tuple_values.specs.Document.{ByteList, Doc}
 use Rattle.expr_plan.specs.Given.{param_at, taken, text_in, names_in, names_maybe, sort_in}
 use Rattle.expr_plan.specs.Given.{query_in, number_in, item_in, items_in, metric_in, metrics_in}
-use Rattle.expr_plan.specs.ExprTree.{ExprTree, search}
+use Rattle.expr_types.specs.ExprTree.{ExprTree, node, inputs_of, search}
 use Rattle.expr_plan.specs.Walk.{with_field, with_fields, search_of}
 use Rattle.query_syntax.specs.declared.query.Query.{Query}
 use Rattle.sort_spec.specs.declared.term.SortTerm.{SortTerm}
-use Rattle.expr_plan.specs.ExprViews.{expr_tree, expr_step}
-use Rattle.expr_plan.specs.declared.expr.Expr.TheOpen.{Expr-F}
-use Rattle.expr_plan.specs.declared.expr.Expr.TheFolds.{fold-roll-Expr}
-use Rattle.expr_plan.specs.declared.expr.Expr.TheVariants as expr
+use Rattle.expr_types.specs.ExprViews.{expr_tree, expr_step}
+use Rattle.expr_types.specs.declared.expr.Expr.TheOpen.{Expr-F}
+use Rattle.expr_types.specs.declared.expr.Expr.TheFolds.{fold-roll-Expr}
+use Rattle.expr_types.specs.declared.expr.Expr.TheVariants as expr
 use Rattle.expr_plan.specs.declared.param.Given.{Given}
 use Rattle.expr_plan.specs.declared.param.Param.TheVariants.{Nothing}
 
@@ -92,14 +92,14 @@ search_found g g1 g2 g3 g4 g5 e1 e2 e3 e4 e5 =
 -- a search is that of its parts
 pub search_is : (collection : ByteList) (q : Query) (fl : List ByteList) (by : List SortTerm)
     (rows : Option ℕ) (keys : Option (List ByteList))
-    → expr_tree (expr.Search collection q fl by rows keys) ≡ search (record {
+    → expr_tree (expr.Search collection q fl by rows keys) ≡ node (search (record {
       collection = collection;
       q = q.clauses;
       fl = fl;
       sort = by;
       rows = rows;
       partition_keys = keys;
-    })
+    })) (inputs_of [])
 search_is collection q fl by rows keys =
     ap expr_tree (sym (expr.rolls-Search collection q fl by rows keys))
     ∙ fold-roll-Expr ExprTree expr_step (Expr-F.Search collection q fl by rows keys)

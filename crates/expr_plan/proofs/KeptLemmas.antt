@@ -15,7 +15,7 @@ use Rattle.expr_plan.specs.Arguments.{with_arg, with_args, with_sub, with_read, 
 use Rattle.expr_plan.specs.Fault.{and_then}
 use Rattle.expr_plan.specs.Given.{metric_in, metric_of_param, metrics_in, is_given, param_at, names_in}
 use Rattle.expr_plan.specs.GroupReading.{group_of_call}
-use Rattle.expr_plan.specs.Groups.{metric_name}
+use Rattle.expr_types.specs.Groups.{metric_name}
 use Rattle.expr_plan.specs.Helpers.{is_helper, is_full, names_any}
 use Rattle.expr_plan.specs.Items.{metric_of_call, metric_of_arg, metric_names}
 use Rattle.expr_plan.specs.Shapes.{bad, names_param}
@@ -25,8 +25,8 @@ use Rattle.expr_plan.specs.declared.function.Function.{Function}
 use Rattle.expr_plan.specs.declared.function.Function.TheVariants.{Reduce, Rollup}
 use Rattle.expr_plan.specs.declared.function.Shape.{Shape}
 use Rattle.expr_plan.specs.declared.function.Shape.TheVariants as shape
-use Rattle.expr_plan.specs.declared.item.GroupOp.{GroupOp}
-use Rattle.expr_plan.specs.declared.item.Metric.{Metric}
+use Rattle.expr_types.specs.declared.item.GroupOp.{GroupOp}
+use Rattle.expr_types.specs.declared.item.Metric.{Metric}
 use Rattle.expr_plan.specs.declared.param.Given.{Given}
 use Rattle.expr_plan.specs.declared.param.Param.{Param}
 use Rattle.expr_plan.specs.declared.param.Param.TheVariants as param

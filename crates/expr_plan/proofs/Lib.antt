@@ -5,6 +5,3 @@ pub mod KeptLemmas
 pub mod PlannedLemmas
 pub mod WalkLemmas
 pub mod GivenLemmas
-pub mod GroupLemmas
-pub mod OrderLemmas
-pub mod SourceLemmas

@@ -8,7 +8,7 @@ use Rattle.tuple_values.specs.Document.{ByteList}
 use Rattle.expr_reader.specs.Tree.{ArgTree, trees_of}
 use Rattle.sort_spec.specs.Grammar.{is_field_byte}
 use Rattle.expr_plan.specs.Words.{is_field, arg_list, plain_of, plain_at, value_of, word_under}
-use Rattle.expr_plan.specs.Groups.{metric_name}
+use Rattle.expr_types.specs.Groups.{metric_name}
 use Rattle.expr_plan.specs.Items.{metric_of_arg, metric_names}
 use Rattle.expr_reader.specs.declared.call.Word.{Word}
 

@@ -6,8 +6,8 @@ use Rattle.tuple_values.specs.Document.{ByteList}
 use Rattle.expr_reader.specs.Tree.{CallTree, ArgTree, plain, named, named_call, sub, renamed}
 use Rattle.expr_reader.specs.Tree.{ArgTrees, no_args, an_arg}
 use Rattle.expr_plan.specs.ConditionReading.{condition_of}
-use Rattle.expr_plan.specs.ConditionTree.{ConditionTree}
-use Rattle.expr_plan.specs.ConditionViews.{condition_tree}
+use Rattle.expr_types.specs.ConditionTree.{ConditionTree}
+use Rattle.expr_types.specs.ConditionViews.{condition_tree}
 use Rattle.expr_plan.specs.Fault.{and_then}
 use Rattle.expr_plan.specs.Functions.{shape_of, next_operand}
 use Rattle.expr_plan.specs.Given.{is_given}

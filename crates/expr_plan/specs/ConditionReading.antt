@@ -8,14 +8,14 @@ use Rattle.tuple_values.specs.Views.{datum_of}
 use Rattle.expr_reader.specs.Tree.{CallTree, call, ArgTree, plain, named, named_call, sub, renamed}
 use Rattle.expr_reader.specs.Tree.{ArgTrees, no_args, an_arg}
 use Rattle.expr_reader.specs.declared.call.Word.{Word}
-use Rattle.expr_plan.specs.ConditionTree.{ConditionTree, compares, all_of, any_of, one_of, not_so}
-use Rattle.expr_plan.specs.ConditionTree.{trees_of}
-use Rattle.expr_plan.specs.Groups.{metric_name}
+use Rattle.expr_types.specs.ConditionTree.{ConditionTree, compares, all_of, any_of, one_of, not_so}
+use Rattle.expr_types.specs.ConditionTree.{trees_of}
+use Rattle.expr_types.specs.Groups.{metric_name}
 use Rattle.expr_plan.specs.Items.{metric_of_call}
 use Rattle.expr_plan.specs.Literals.{literal}
 use Rattle.expr_plan.specs.Words.{is_field, arg_list, plain_of}
-use Rattle.expr_plan.specs.declared.condition.Comparison.{Comparison}
-use Rattle.expr_plan.specs.declared.condition.Comparison.TheVariants.{Eq, Gt, Lt, Gteq, Lteq}
+use Rattle.expr_types.specs.declared.condition.Comparison.{Comparison}
+use Rattle.expr_types.specs.declared.condition.Comparison.TheVariants.{Eq, Gt, Lt, Gteq, Lteq}
 
 -- the comparison of a name
 abbrev pub comparison_of : ByteList → Option Comparison

@@ -8,9 +8,9 @@ use Rattle.sort_spec.specs.declared.term.SortTerm.{SortTerm}
 use Rattle.expr_plan.specs.declared.param.Given.{Given}
 use Rattle.expr_plan.specs.declared.param.Param.{Param}
 use Rattle.expr_plan.specs.declared.param.Param.TheVariants as param
-use Rattle.expr_plan.specs.declared.item.GroupOp.{GroupOp}
-use Rattle.expr_plan.specs.declared.item.Item.{Item}
-use Rattle.expr_plan.specs.declared.item.Metric.{Metric}
+use Rattle.expr_types.specs.declared.item.GroupOp.{GroupOp}
+use Rattle.expr_types.specs.declared.item.Item.{Item}
+use Rattle.expr_types.specs.declared.item.Metric.{Metric}
 
 -- whether there is a parameter of the name
 abbrev pub is_given : ByteList → List Given → Bool

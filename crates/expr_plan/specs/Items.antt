@@ -9,13 +9,13 @@ use Rattle.sort_spec.specs.Grammar.{is_blank, is_field_byte}
 use Rattle.sort_spec.specs.Reading.{Reading, said, stuck, names_of}
 use Rattle.expr_reader.specs.Tree.{CallTree, call, ArgTree, plain, named, named_call, sub, renamed}
 use Rattle.expr_reader.specs.declared.call.Word.{Word}
-use Rattle.expr_plan.specs.Groups.{metric_name}
+use Rattle.expr_types.specs.Groups.{metric_name}
 use Rattle.expr_plan.specs.Literals.{literal_or_null}
 use Rattle.expr_plan.specs.Words.{is_field, arg_list, plain_at, word_under}
-use Rattle.expr_plan.specs.declared.item.Item.{Item}
-use Rattle.expr_plan.specs.declared.item.Item.TheVariants.{Field, Replace, Concat}
-use Rattle.expr_plan.specs.declared.item.Metric.{Metric}
-use Rattle.expr_plan.specs.declared.item.Metric.TheVariants.{Sum, Min, Max, Count}
+use Rattle.expr_types.specs.declared.item.Item.{Item}
+use Rattle.expr_types.specs.declared.item.Item.TheVariants.{Field, Replace, Concat}
+use Rattle.expr_types.specs.declared.item.Metric.{Metric}
+use Rattle.expr_types.specs.declared.item.Metric.TheVariants.{Sum, Min, Max, Count}
 
 -- the metric of a name over a field, if there is one
 abbrev pub metric_of_field : ByteList → ByteList → Option Metric

@@ -7,9 +7,9 @@ use Rattle.tuple_values.specs.Views.{datum_of}
 use Rattle.expr_reader.specs.Tree.{CallTree, call, ArgTree, plain, named, named_call, sub, renamed}
 use Rattle.expr_reader.specs.Tree.{ArgTrees, no_args, an_arg}
 use Rattle.expr_plan.specs.Arguments.{Walked, nothing_given, with_args}
-use Rattle.expr_plan.specs.ConditionTree.{ConditionTree, all_of, no_conditions}
-use Rattle.expr_plan.specs.ExprTree.{ExprTree, search, tuple, select, having, sort, top, unique, merge}
-use Rattle.expr_plan.specs.ExprTree.{reduce, rollup, inputs_of}
+use Rattle.expr_types.specs.ConditionTree.{ConditionTree, all_of, no_conditions}
+use Rattle.expr_types.specs.ExprTree.{Operator, search, tuple, select, having, sort, top, unique}
+use Rattle.expr_types.specs.ExprTree.{merge, reduce, rollup, ExprTree, node, inputs_of}
 use Rattle.expr_plan.specs.Fault.{and_then}
 use Rattle.expr_plan.specs.Functions.{function_of, name_of, takes, first_missing}
 use Rattle.expr_plan.specs.Given.{param_at, text_in, names_in, names_maybe, sort_in, query_in}
@@ -41,18 +41,13 @@ abbrev pub with_fields : Doc → List Given → Doc
 with_fields doc [] = doc
 with_fields doc (g ∷ given) = with_fields (with_field doc g.name g.param) given
 
--- the first input; a tuple without fields where there is none
-abbrev pub first_of : List ExprTree → ExprTree
-first_of [] = tuple []
-first_of (e ∷ inputs) = e
-
 -- the condition; one that always holds where there is none
 abbrev pub condition_or_all : Option ConditionTree → ConditionTree
 condition_or_all None = all_of no_conditions
 condition_or_all (Some condition) = condition
 
 -- the search of these parameters
-abbrev pub search_of : List Given → ExprTree
+abbrev pub search_of : List Given → Operator
 search_of given =
     search (record {
       collection = text_in (param_at (codes "collection") given);
@@ -63,23 +58,21 @@ search_of given =
       partition_keys = names_maybe (param_at (codes "partitionKeys") given);
     })
 
--- the expression of a function with these parameters and inputs
-abbrev pub expression : Function → Walked → List ExprTree → ExprTree
-expression Search w inputs = search_of w.given
-expression Tuple w inputs = tuple (with_fields [] w.given)
-expression Select w inputs = select (first_of inputs) (items_in w.given)
-expression Having w inputs = having (first_of inputs) (condition_or_all w.condition)
-expression Sort w inputs = sort (first_of inputs) (sort_in (param_at (codes "by") w.given))
-expression Top w inputs =
-    top (first_of inputs) (count_in (param_at (codes "n") w.given))
-    (sort_in (param_at (codes "sort") w.given))
-expression Unique w inputs = unique (first_of inputs) (names_in (param_at (codes "over") w.given))
-expression Merge w inputs = merge (inputs_of inputs) (sort_in (param_at (codes "on") w.given))
-expression Reduce w inputs =
-    reduce (first_of inputs) (names_in (param_at (codes "by") w.given))
+-- the operator of a function with these parameters
+abbrev pub operator_of : Function → Walked → Operator
+operator_of Search w = search_of w.given
+operator_of Tuple w = tuple (with_fields [] w.given)
+operator_of Select w = select (items_in w.given)
+operator_of Having w = having (condition_or_all w.condition)
+operator_of Sort w = sort (sort_in (param_at (codes "by") w.given))
+operator_of Top w =
+    top (count_in (param_at (codes "n") w.given)) (sort_in (param_at (codes "sort") w.given))
+operator_of Unique w = unique (names_in (param_at (codes "over") w.given))
+operator_of Merge w = merge (sort_in (param_at (codes "on") w.given))
+operator_of Reduce w =
+    reduce (names_in (param_at (codes "by") w.given))
     (group_in (param_at (codes "group") w.given))
-expression Rollup w inputs =
-    rollup (first_of inputs) (names_in (param_at (codes "over") w.given)) (metrics_in w.given)
+operator_of Rollup w = rollup (names_in (param_at (codes "over") w.given)) (metrics_in w.given)
 
 -- the function of a name, which may be unknown
 abbrev pub known : ByteList → Option Function → Result Function PlanFault
@@ -104,7 +97,8 @@ abbrev mutual
   pub planned : CallTree → Result ExprTree PlanFault
   planned (call name args) =
       and_then (known name (function_of name)) (λ f. and_then (walked_of f args)
-      (λ w. and_then (inputs_planned f args) (λ inputs. Ok (expression f w inputs))))
+      (λ w. and_then (inputs_planned f args)
+      (λ inputs. Ok (node (operator_of f w) (inputs_of inputs)))))
 
   -- what the inputs of a function stand for, or the first fault of the first that has one
   pub inputs_planned : Function → ArgTrees → Result (List ExprTree) PlanFault

@@ -1,10 +1,11 @@
 // The expression of a function with its parameters and inputs.
-ghost use Rattle.std.specs.Prelude.{◌≡◌, [], IfOk, OnOk, map, option_map};
+ghost use Rattle.std.specs.Prelude.{◌≡◌, [], ◌∷◌, IfOk, OnOk, length, map, option_map, true};
 ghost use Rattle.expr_plan.specs.Arguments.{walked};
-ghost use Rattle.expr_plan.specs.ConditionViews.{condition_tree};
-ghost use Rattle.expr_plan.specs.ExprTree.{tuple};
-ghost use Rattle.expr_plan.specs.ExprViews.{expr_tree};
-ghost use Rattle.expr_plan.specs.Walk.{expression, search_of, first_of, condition_or_all, with_field, with_fields};
+ghost use Rattle.expr_types.specs.ConditionViews.{condition_tree};
+ghost use Rattle.expr_types.specs.ExprTree.{node, inputs_of, tuple};
+ghost use Rattle.expr_types.specs.ExprViews.{expr_tree};
+ghost use Rattle.expr_plan.specs.Functions.{takes};
+ghost use Rattle.expr_plan.specs.Walk.{operator_of, search_of, condition_or_all, with_field, with_fields};
 
 use crate::function::Function;
 use crate::param::{Given, Param, Params};
@@ -14,7 +15,8 @@ use tuple_values::{Memory, Tuple};
 
 // A search with these parameters.
 fn search(alloc: Global, mut params: Params) -> Result<Expr, Memory>
-    ensures { IfOk result (λ e. expr_tree e ≡ search_of params.items.items) }
+    ensures { IfOk result (λ e. expr_tree e
+        ≡ node (search_of params.items.items) (inputs_of [])) }
 {
     let collection = params.take_text(alloc, "collection")?;
     let q = params.take_query(alloc, "q");
@@ -45,7 +47,8 @@ fn put_field(tuple: &mut Tuple, given: Given) -> Result<(), Memory>
 // A tuple of these parameters.
 #[tactic(auto, using(crate::proofs::GivenLemmas::field_steps))]
 fn tuple(alloc: Global, params: Params) -> Result<Expr, Memory>
-    ensures { IfOk result (λ e. expr_tree e ≡ tuple (with_fields [] params.items.items)) }
+    ensures { IfOk result (λ e. expr_tree e
+        ≡ node (tuple (with_fields [] params.items.items)) (inputs_of [])) }
 {
     let mut fields = Tuple::empty(alloc);
     for given in params.into_vec() {
@@ -54,17 +57,13 @@ fn tuple(alloc: Global, params: Params) -> Result<Expr, Memory>
     Ok(Expr::Tuple { fields })
 }
 
-// The first input.
-fn first_of(alloc: Global, inputs: Exprs) -> Result<Box<Expr>, Memory>
-    ensures { IfOk result (λ e. expr_tree e.value ≡ first_of (map expr_tree inputs.items)) }
+// The one input.
+fn only(alloc: Global, inputs: Exprs) -> Result<Box<Expr>, Memory>
+    requires { length inputs.items ≡ 1 }
+    ensures { IfOk result (λ e. map expr_tree inputs.items ≡ expr_tree e.value ∷ []) }
 {
-    match inputs.into_iter().next() {
-        Some(input) => Ok(Box::new(alloc, input)?),
-        None => {
-            let fields = Tuple::empty(alloc);
-            Ok(Box::new(alloc, Expr::Tuple { fields })?)
-        }
-    }
+    let mut inputs = inputs;
+    Ok(Box::new(alloc, inputs.remove(0))?)
 }
 
 // The condition that was given.
@@ -78,74 +77,81 @@ fn condition_or_all(alloc: Global, condition: Option<Condition>) -> Condition
 }
 
 fn select(alloc: Global, params: Params, inputs: Exprs) -> Result<Expr, Memory>
+    requires { length inputs.items ≡ 1 }
     ensures { IfOk result (λ e. expr_tree e
-        ≡ expression Function.Select (walked params) (map expr_tree inputs.items)) }
+        ≡ node (operator_of Function.Select (walked params)) (inputs_of (map expr_tree inputs.items))) }
 {
-    let input = first_of(alloc, inputs)?;
+    let input = only(alloc, inputs)?;
     let items = params.into_items(alloc)?;
     Ok(Expr::Select { input, items })
 }
 
 fn having(alloc: Global, mut params: Params, inputs: Exprs) -> Result<Expr, Memory>
+    requires { length inputs.items ≡ 1 }
     ensures { IfOk result (λ e. expr_tree e
-        ≡ expression Function.Having (walked params) (map expr_tree inputs.items)) }
+        ≡ node (operator_of Function.Having (walked params)) (inputs_of (map expr_tree inputs.items))) }
 {
-    let input = first_of(alloc, inputs)?;
+    let input = only(alloc, inputs)?;
     let condition = condition_or_all(alloc, params.take_condition());
     Ok(Expr::Having { input, condition })
 }
 
 fn sort(alloc: Global, mut params: Params, inputs: Exprs) -> Result<Expr, Memory>
+    requires { length inputs.items ≡ 1 }
     ensures { IfOk result (λ e. expr_tree e
-        ≡ expression Function.Sort (walked params) (map expr_tree inputs.items)) }
+        ≡ node (operator_of Function.Sort (walked params)) (inputs_of (map expr_tree inputs.items))) }
 {
-    let input = first_of(alloc, inputs)?;
+    let input = only(alloc, inputs)?;
     let by = params.take_sort(alloc, "by");
     Ok(Expr::Sort { input, by })
 }
 
 fn top(alloc: Global, mut params: Params, inputs: Exprs) -> Result<Expr, Memory>
+    requires { length inputs.items ≡ 1 }
     ensures { IfOk result (λ e. expr_tree e
-        ≡ expression Function.Top (walked params) (map expr_tree inputs.items)) }
+        ≡ node (operator_of Function.Top (walked params)) (inputs_of (map expr_tree inputs.items))) }
 {
-    let input = first_of(alloc, inputs)?;
+    let input = only(alloc, inputs)?;
     let n = params.take_count("n");
     let sort = params.take_sort(alloc, "sort");
     Ok(Expr::Top { input, n, sort })
 }
 
 fn unique(alloc: Global, mut params: Params, inputs: Exprs) -> Result<Expr, Memory>
+    requires { length inputs.items ≡ 1 }
     ensures { IfOk result (λ e. expr_tree e
-        ≡ expression Function.Unique (walked params) (map expr_tree inputs.items)) }
+        ≡ node (operator_of Function.Unique (walked params)) (inputs_of (map expr_tree inputs.items))) }
 {
-    let input = first_of(alloc, inputs)?;
+    let input = only(alloc, inputs)?;
     let over = params.take_names(alloc, "over");
     Ok(Expr::Unique { input, over })
 }
 
 fn merge(alloc: Global, mut params: Params, inputs: Exprs) -> Result<Expr, Memory>
     ensures { IfOk result (λ e. expr_tree e
-        ≡ expression Function.Merge (walked params) (map expr_tree inputs.items)) }
+        ≡ node (operator_of Function.Merge (walked params)) (inputs_of (map expr_tree inputs.items))) }
 {
     let on = params.take_sort(alloc, "on");
     Ok(Expr::Merge { inputs, on })
 }
 
 fn reduce(alloc: Global, mut params: Params, inputs: Exprs) -> Result<Expr, Memory>
+    requires { length inputs.items ≡ 1 }
     ensures { IfOk result (λ e. expr_tree e
-        ≡ expression Function.Reduce (walked params) (map expr_tree inputs.items)) }
+        ≡ node (operator_of Function.Reduce (walked params)) (inputs_of (map expr_tree inputs.items))) }
 {
-    let input = first_of(alloc, inputs)?;
+    let input = only(alloc, inputs)?;
     let by = params.take_names(alloc, "by");
     let group = params.take_group(alloc, "group");
     Ok(Expr::Reduce { input, by, group })
 }
 
 fn rollup(alloc: Global, mut params: Params, inputs: Exprs) -> Result<Expr, Memory>
+    requires { length inputs.items ≡ 1 }
     ensures { IfOk result (λ e. expr_tree e
-        ≡ expression Function.Rollup (walked params) (map expr_tree inputs.items)) }
+        ≡ node (operator_of Function.Rollup (walked params)) (inputs_of (map expr_tree inputs.items))) }
 {
-    let input = first_of(alloc, inputs)?;
+    let input = only(alloc, inputs)?;
     let over = params.take_names(alloc, "over");
     let metrics = params.into_metrics(alloc)?;
     Ok(Expr::Rollup {
@@ -162,8 +168,9 @@ pub(crate) fn expression(
     params: Params,
     inputs: Exprs,
 ) -> Result<Expr, Memory>
+    requires { takes function (length inputs.items) ≡ true }
     ensures { IfOk result (λ e. expr_tree e
-        ≡ expression function (walked params) (map expr_tree inputs.items)) }
+        ≡ node (operator_of function (walked params)) (inputs_of (map expr_tree inputs.items))) }
 {
     match function {
         Function::Search => search(alloc, params),

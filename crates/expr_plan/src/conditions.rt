@@ -4,7 +4,7 @@ ghost use Rattle.expr_reader.specs.Tree.{trees_of};
 ghost use Rattle.expr_reader.specs.Views.{call_tree, arg_tree};
 ghost use Rattle.expr_plan.specs.ConditionReading.{comparison_of, compared, compared_field, compare_called, one_of_two, not_one, joined, condition_of, conditions_of, condition_in};
 ghost use Rattle.expr_plan.specs.Words.{plain_of};
-ghost use Rattle.expr_plan.specs.ConditionViews.{condition_tree, condition_trees};
+ghost use Rattle.expr_types.specs.ConditionViews.{condition_tree, condition_trees};
 
 use crate::literals::literal as literal_of;
 use crate::metrics::metric_name_of;

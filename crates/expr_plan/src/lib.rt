@@ -2,16 +2,11 @@
 #![tactic(auto)]
 
 mod building;
-mod condition;
 mod conditions;
-mod expr;
 mod fault;
-#[cfg(test)]
-mod fault_tests;
 mod function;
 mod groups;
 mod helpers;
-mod item;
 mod items;
 mod literals;
 mod metrics;
@@ -23,8 +18,8 @@ mod tests;
 mod walk;
 mod words;
 
-pub use condition::{Comparison, Condition, Conditions};
-pub use expr::{Expr, Exprs};
+pub use expr_types::{
+    Comparison, Condition, Conditions, Expr, Exprs, GroupOp, Item, Items, Metric, Metrics,
+};
 pub use fault::PlanFault;
-pub use item::{GroupOp, Item, Items, Metric, Metrics};
 pub use planning::plan;

@@ -1,7 +1,7 @@
 // Metrics among the arguments of a call.
 ghost use Rattle.std.specs.Prelude.{◌≡◌, ◌++◌, IfOk, codes, option_map};
 ghost use Rattle.expr_reader.specs.Views.{call_tree, arg_tree};
-ghost use Rattle.expr_plan.specs.Groups.{metric_name};
+ghost use Rattle.expr_types.specs.Groups.{metric_name};
 ghost use Rattle.expr_plan.specs.Items.{metric_of_field, metric_over, metric_called, metric_of_call, metric_of_arg, metric_names};
 
 use crate::Metric;

@@ -4,10 +4,10 @@ ghost use Rattle.std.specs.List.{cons_option};
 ghost use Rattle.expr_reader.specs.Tree.{trees_of};
 ghost use Rattle.expr_reader.specs.Views.{call_tree, arg_tree};
 ghost use Rattle.expr_plan.specs.Arguments.{walked};
-ghost use Rattle.expr_plan.specs.ExprViews.{expr_tree};
+ghost use Rattle.expr_types.specs.ExprViews.{expr_tree};
 ghost use Rattle.expr_plan.specs.Fault.{IsFaultOf};
 ghost use Rattle.expr_plan.specs.Functions.{name_of};
-ghost use Rattle.expr_plan.specs.Lists.{AreKeysKept};
+ghost use Rattle.expr_types.specs.Lists.{AreKeysKept};
 ghost use Rattle.expr_plan.specs.Walk.{walked_of, planned, inputs_planned, input_planned};
 ghost use Rattle.expr_plan.specs.declared.fault.PlanFault.TheVariants.{MissingParam, WrongInputs};
 

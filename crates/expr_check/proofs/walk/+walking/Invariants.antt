@@ -1,18 +1,27 @@
-use Rattle.std.proofs.Common.{◌≡◌, drop, map}
+use Rattle.std.proofs.Common.{◌≡◌, ◌+◌, ◌*◌, ◌++◌, drop}
 use Rattle.std.specs.Option.{option_or}
-use Rattle.expr_plan.specs.ExprTree.{inputs_of}
-use Rattle.expr_plan.specs.ExprViews.{expr_tree}
+use Rattle.tuple_values.specs.Collections.{is_known}
+use Rattle.expr_types.specs.ExprTree.{inputs_in, inputs_of, height}
+use Rattle.expr_types.specs.ExprViews.{expr_tree}
 use Rattle.expr_check.specs.Orders.{orders_of}
-use Rattle.expr_check.specs.Faults.{merge_fault, faults_of}
+use Rattle.expr_check.specs.Faults.{faults_where}
 use Rattle.expr_check.proofs.walk.+walking.Given as goal
 
--- the first faults so far, or else those of the inputs to come
-abbrev pub invariant-merged-loop-input : goal.invariant-merged-loop-input
-invariant-merged-loop-input l = record {
-  own : merge_fault l.on (orders_of (inputs_of (map expr_tree l.inputs)))
-      ≡ option_or l.own
-      (merge_fault l.on (orders_of (inputs_of (map expr_tree (drop l.input-index l.inputs)))));
-  below : faults_of l.names (inputs_of (map expr_tree l.inputs))
-      ≡ option_or l.below
-      (faults_of l.names (inputs_of (map expr_tree (drop l.input-index l.inputs))));
+-- the orders and the first fault so far, and then those of the inputs to come
+abbrev pub invariant-walk_inputs-loop-k : goal.invariant-walk_inputs-loop-k
+invariant-walk_inputs-loop-k l = record {
+  orders : l.orders.items ++ orders_of (inputs_of (drop l.k (inputs_in (expr_tree l.expr))))
+      ≡ orders_of (inputs_of (inputs_in (expr_tree l.expr)));
+  fault : option_or l.fault
+      (faults_where (λ name. is_known name l.names)
+      (inputs_of (drop l.k (inputs_in (expr_tree l.expr)))))
+      ≡ faults_where (λ name. is_known name l.names)
+      (inputs_of (inputs_in (expr_tree l.expr)));
 }
+
+-- an input is lower than its expression
+abbrev pub decreases-walk : goal.decreases-walk
+decreases-walk l = height (expr_tree l.expr.now) * 2 + 1
+
+abbrev pub decreases-walk_inputs : goal.decreases-walk_inputs
+decreases-walk_inputs l = height (expr_tree l.expr.now) * 2

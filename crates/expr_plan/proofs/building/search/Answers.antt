@@ -1,4 +1,5 @@
-use Rattle.std.proofs.Common.{sym, ◌∙◌}
+use Rattle.std.proofs.Common.{sym, ap, ◌∙◌, []}
+use Rattle.expr_types.specs.ExprTree.{Operator, node, inputs_of}
 use Rattle.expr_plan.proofs.GivenLemmas.{search_found, search_is}
 use Rattle.expr_plan.proofs.building.search.Goals as goal
 
@@ -19,4 +20,4 @@ returns c =
       c.take_sort-sort.ensures.value,
       c.take_number-rows.ensures.value,
       c.take_names_maybe-partition_keys.ensures.value,
-    ) (sym whole)
+    ) (ap (λ (op : Operator). node op (inputs_of [])) (sym whole))

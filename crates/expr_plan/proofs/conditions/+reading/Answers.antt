@@ -3,7 +3,7 @@ use Rattle.std.proofs.Common.{arith}
 use Rattle.expr_reader.specs.Tree.{trees_of}
 use Rattle.expr_reader.specs.Views.{arg_tree}
 use Rattle.expr_plan.specs.ConditionReading.{condition_in, conditions_of}
-use Rattle.expr_plan.specs.ConditionViews.{condition_tree, condition_trees}
+use Rattle.expr_types.specs.ConditionViews.{condition_tree, condition_trees}
 use Rattle.expr_plan.proofs.ConditionLemmas.{and_then_those, condition_read, condition_refused}
 use Rattle.expr_plan.proofs.ConditionLemmas.{condition_trees-push}
 use Rattle.expr_plan.proofs.conditions.+reading.Goals as goal

@@ -1,7 +1,7 @@
 use Rattle.std.proofs.Common.{◌≡◌, drop}
 use Rattle.expr_reader.specs.Tree.{trees_of}
 use Rattle.expr_plan.specs.ConditionReading.{conditions_of}
-use Rattle.expr_plan.specs.ConditionViews.{condition_trees}
+use Rattle.expr_types.specs.ConditionViews.{condition_trees}
 use Rattle.expr_plan.proofs.ConditionLemmas.{and_then_those}
 use Rattle.expr_plan.proofs.conditions.+reading.Given as goal
 

@@ -1,14 +1,16 @@
 use Rattle.std.proofs.Common.{◌≡◌, ◌+◌, ◌<◌, [], length, drop, map, option_map, ap, sym, ◌∙◌}
 use Rattle.std.proofs.Common.{Ok, Some, arith}
 use Rattle.std.specs.List.{cons_option}
+use Rattle.std.proofs.lemmas.List.{length-map}
 use Rattle.std.proofs.lemmas.Result.{err_from_is_err_and}
 use Rattle.expr_reader.specs.Tree.{trees_of}
 use Rattle.expr_reader.specs.Views.{arg_tree, call_tree}
-use Rattle.expr_plan.specs.ExprViews.{expr_tree}
-use Rattle.expr_plan.specs.Functions.{function_of}
-use Rattle.expr_plan.specs.Walk.{inputs_planned}
+use Rattle.expr_types.specs.ExprViews.{expr_tree}
+use Rattle.expr_plan.specs.Arguments.{walked}
+use Rattle.expr_plan.specs.Functions.{function_of, takes}
+use Rattle.expr_plan.specs.Walk.{inputs_planned, inputs_found}
 use Rattle.expr_plan.proofs.InputLemmas.{behind, exprs-push, input_read, input_refused}
-use Rattle.expr_plan.proofs.PlannedLemmas.{planned_kept}
+use Rattle.expr_plan.proofs.PlannedLemmas.{planned_kept, walked_takes, inputs_width}
 use Rattle.expr_plan.proofs.planning.+planning.Goals as goal
 
 pub plan-returns-clause-ok : goal.plan-returns-clause-ok
@@ -17,6 +19,16 @@ plan-returns-clause-ok t c =
     ap function_of (sym c.as_str.ensures) ∙ sym c.in-Some.ensures in
     rw (known, c.in_ok-params.ensures, c.in_ok-inputs.ensures)
     (ap Ok (sym c.in_ok-expression.ensures))
+
+pub plan-expression-requires : goal.plan-expression-requires
+plan-expression-requires t c =
+    let f = c.in-Some.function in
+    let args = trees_of c.args.call.now.args in
+    let inputs = c.in_ok-inputs.inputs.items in
+    let width : length inputs ≡ inputs_found f args =
+    sym (length-map inputs expr_tree)
+    ∙ inputs_width f args (map expr_tree inputs) c.in_ok-inputs.ensures in
+    ap (takes f) width ∙ walked_takes f args (walked c.in_ok-params.params) c.in_ok-params.ensures
 
 pub plan-returns-clause-well : goal.plan-returns-clause-well
 plan-returns-clause-well t c =

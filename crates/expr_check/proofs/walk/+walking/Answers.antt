@@ -1,0 +1,46 @@
+use Rattle.std.proofs.Common.{◌≡◌, ◌<◌, ◌+◌, ◌++◌, ◌∙◌, ap, sym, length, drop, Bool, arith}
+use Rattle.std.specs.Option.{option_or}
+use Rattle.tuple_values.specs.Collections.{is_known}
+use Rattle.tuple_values.specs.Document.{ByteList}
+use Rattle.expr_types.specs.ExprTree.{inputs_in, inputs_of, operator_in}
+use Rattle.expr_types.specs.ExprViews.{expr_tree}
+use Rattle.expr_check.specs.Faults.{fault_at, faults_where}
+use Rattle.expr_check.specs.Orders.{order_given, orders_of}
+use Rattle.expr_check.proofs.WalkLemmas.{order_of-parts, fault_where-parts, orders_more}
+use Rattle.expr_check.proofs.WalkLemmas.{faults_more}
+use Rattle.expr_check.proofs.walk.+walking.Goals as goal
+
+pub walk_inputs-loop-k-preserved : goal.walk_inputs-loop-k-preserved
+walk_inputs-loop-k-preserved t c =
+    let inputs = inputs_in (expr_tree c.args.expr.now) in
+    let is_there : ByteList → Bool = λ name. is_known name c.args.names.now in
+    let lt : c.loop-k.k < length inputs = omega arith in
+    record {
+      orders =
+          ap (λ w. w ++ orders_of (inputs_of (drop (c.loop-k.k + 1) inputs)))
+          c.in_ok-push.ensures.items
+          ∙ orders_more inputs c.loop-k.k (expr_tree c.input.result.now) c.loop-k.orders.items
+          c.in_ok-walked.walked.order lt (c.input.ensures.value _) c.in_ok-walked.ensures.order
+          c.loop-k.invariant.orders;
+      fault =
+          ap (λ w. option_or w (faults_where is_there (inputs_of (drop (c.loop-k.k + 1) inputs))))
+          c.or-fault.ensures
+          ∙ faults_more is_there inputs c.loop-k.k (expr_tree c.input.result.now) c.loop-k.fault
+          c.in_ok-walked.walked.fault lt (c.input.ensures.value _) c.in_ok-walked.ensures.fault
+          c.loop-k.invariant.fault;
+    }
+
+pub walk-returns-clause-fault : goal.walk-returns-clause-fault
+walk-returns-clause-fault t c =
+    let whole = expr_tree c.args.expr.now in
+    let is_there : ByteList → Bool = λ name. is_known name c.args.names.now in
+    cc (
+      c.or.ensures,
+      c.in_ok-own.ensures,
+      c.as_slice.ensures.value,
+      c.in_ok-orders.ensures.orders,
+      c.in_ok-orders.orders-is,
+      c.in_ok-orders.ensures.fault,
+      c.in_ok-orders.fault-is,
+      fault_where-parts is_there whole,
+    )
