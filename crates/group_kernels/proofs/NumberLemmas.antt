@@ -9,7 +9,7 @@ use Rattle.std.proofs.lemmas.List.{append-nil, take_more}
 use Rattle.std.proofs.lemmas.List.Elements.{filter_map-append}
 use Rattle.std.proofs.lemmas.List.Sums.{fold-append}
 use Rattle.tuple_values.specs.Document.{ByteList, Doc, value_at}
-use Rattle.expr_plan.specs.Groups.{wrapped_sum, foremost, numbers_of, long_in}
+use Rattle.expr_types.specs.Groups.{wrapped_sum, foremost, numbers_of, long_in}
 use Rattle.group_kernels.specs.Numbers.{added, nearer}
 
 -- a sum that wraps on the way is the sum that wraps at the end

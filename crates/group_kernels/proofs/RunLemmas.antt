@@ -10,8 +10,8 @@ use Rattle.std.proofs.lemmas.List.{append-nil}
 use Rattle.sort_spec.specs.Sorting.{IsAscending}
 use Rattle.sort_spec.proofs.SortLemmas.{each_weaker}
 use Rattle.sort_spec.proofs.StableLemmas.{below, tie_itself, filter_none}
-use Rattle.expr_plan.specs.Groups.{firsts, groups}
-use Rattle.expr_plan.proofs.GroupLemmas.{firsts-cons, groups-cons}
+use Rattle.expr_types.specs.Groups.{firsts, groups}
+use Rattle.expr_types.proofs.GroupLemmas.{firsts-cons, groups-cons}
 use Rattle.group_kernels.specs.Runs.{heads, spans}
 
 -- the halves of a tie

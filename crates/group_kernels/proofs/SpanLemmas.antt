@@ -4,9 +4,9 @@ use Rattle.std.proofs.Common.{None, arith}
 use Rattle.tuple_values.specs.Document.{ByteList, Doc}
 use Rattle.sort_spec.specs.Terms.{less}
 use Rattle.sort_spec.proofs.TermLemmas.{less_is_weak}
-use Rattle.expr_plan.specs.Groups.{same_key, firsts, groups}
-use Rattle.expr_plan.specs.Orders.{IsSortedOver}
-use Rattle.expr_plan.proofs.OrderLemmas.{same_key-ties, ascends_by_first}
+use Rattle.expr_types.specs.Groups.{same_key, firsts, groups}
+use Rattle.expr_types.specs.Orders.{IsSortedOver}
+use Rattle.expr_types.proofs.OrderLemmas.{same_key-ties, ascends_by_first}
 use Rattle.kernel_laws.proofs.RestLemmas.{rest_at-put_front, length-put_front}
 use Rattle.group_kernels.specs.Runs.{heads, spans, is_next}
 use Rattle.group_kernels.proofs.RunLemmas.{heads-firsts, spans-groups}

@@ -2,7 +2,7 @@
 use Rattle.std.proofs.Common.{◌≡◌, ℕ, List, [], ◌∷◌, Some, None, take, refl, ap}
 use Rattle.std.specs.Prelude.{slice_get, codes}
 use Rattle.tuple_values.specs.Document.{Doc, group, rows_of, put}
-use Rattle.expr_plan.specs.Groups.{with_group}
+use Rattle.expr_types.specs.Groups.{with_group}
 
 -- where there is a first
 pub with_group-some : (n : ℕ) (docs : List Doc) (first : Doc) → slice_get docs 0 ≡ Some first

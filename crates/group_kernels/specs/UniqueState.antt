@@ -3,7 +3,7 @@ use Rattle.std.specs.Prelude.{◌≡◌, ℕ, List, [], ◌∷◌, ◌++◌, Boo
 use Rattle.std.specs.Prelude.{option_to_list}
 use Rattle.tuple_values.specs.Document.{Doc}
 use Rattle.kernel_laws.specs.Rests.{Rests, rest_at, IsOne}
-use Rattle.expr_plan.specs.Groups.{same_key}
+use Rattle.expr_types.specs.Groups.{same_key}
 use Rattle.group_kernels.specs.Runs.{heads}
 use Rattle.group_kernels.specs.declared.unique.UniqueKernel.{UniqueKernel}
 

@@ -2,15 +2,15 @@
 ghost use Rattle.std.specs.Prelude.{◌≡◌, List, [], ◌∷◌, true, false, length, map, IfOk};
 ghost use Rattle.std.specs.Prelude.{option_to_list};
 ghost use Rattle.tuple_values.specs.Document.{Doc};
-ghost use Rattle.expr_plan.specs.Groups.{same_key, groups};
-ghost use Rattle.expr_plan.specs.Orders.{IsSortedOver};
+ghost use Rattle.expr_types.specs.Groups.{same_key, groups};
+ghost use Rattle.expr_types.specs.Orders.{IsSortedOver};
 ghost use Rattle.group_kernels.specs.GroupState as group_state;
 ghost use Rattle.group_kernels.specs.Runs.{spans};
 ghost use Rattle.group_kernels.specs.Work.{worked};
 
 use crate::key::is_next;
 use crate::work::{Work, worked};
-use kernel_laws::{Ask, Kernel};
+use kernel_laws::{Ask, Kernel, OneInput};
 use std::alloc::Global;
 use std::mem;
 use tuple_values::{FieldList, Memory, Tuple};
@@ -24,8 +24,7 @@ pub(crate) struct GroupKernel {
     work: Work,
     run: Vec<Tuple>,
     held: Option<Tuple>,
-    ended: bool,
-    failed: bool,
+    input: OneInput,
 }
 
 impl GroupKernel {
@@ -45,18 +44,8 @@ impl GroupKernel {
             work,
             run: Vec::new(alloc),
             held: None,
-            ended: false,
-            failed: false,
+            input: OneInput::open(),
         }
-    }
-
-    // Keeps that memory was wanting.
-    fn fail(&mut self) -> Result<(), Memory>
-        ensures failed { self.new.failed ≡ true }
-        ensures err { result ≡ Err Memory.OutOfMemory }
-    {
-        self.failed = true;
-        Err(Memory::OutOfMemory)
     }
 }
 
@@ -80,49 +69,27 @@ impl Kernel for GroupKernel {
     }
 
     fn ask(&mut self) -> Result<Ask, Memory> {
-        if self.failed {
-            return Err(Memory::OutOfMemory);
-        }
-        match self.held.take() {
-            Some(tuple) => Ok(Ask::Emit(tuple)),
-            None => {
-                if self.ended {
-                    Ok(Ask::End)
-                } else {
-                    Ok(Ask::Need(0))
-                }
-            }
-        }
+        let next = self.held.take();
+        self.input.answer(next)
     }
 
     #[tactic(auto, using(crate::proofs::SpanLemmas::feed_steps))]
     fn feed(&mut self, _input: u32, tuple: Option<Tuple>) -> Result<(), Memory> {
-        if self.failed {
-            return Err(Memory::OutOfMemory);
-        }
+        self.input.lives()?;
         let Some(tuple) = tuple else {
             let run = mem::replace(&mut self.run, Vec::new(self.alloc));
-            let Ok(last) = last_of(self.alloc, &self.names, &self.work, run) else {
-                return self.fail();
-            };
-            self.held = last;
-            self.ended = true;
+            let last = last_of(self.alloc, &self.names, &self.work, run);
+            self.held = self.input.keep(last)?;
+            self.input.end();
             return Ok(());
         };
         if is_next(&self.names, &self.run, &tuple) {
-            if self.run.push(tuple).is_err() {
-                return self.fail();
-            }
-            return Ok(());
+            return self.input.push(&mut self.run, tuple);
         }
-        let Ok(next) = one(self.alloc, tuple) else {
-            return self.fail();
-        };
+        let next = self.input.keep(one(self.alloc, tuple))?;
         let run = mem::replace(&mut self.run, next);
-        let Ok(made) = worked(self.alloc, &self.names, &self.work, run) else {
-            return self.fail();
-        };
-        self.held = Some(made);
+        let made = worked(self.alloc, &self.names, &self.work, run);
+        self.held = Some(self.input.keep(made)?);
         Ok(())
     }
 }

@@ -1,6 +1,6 @@
 // Tuples of one key.
 ghost use Rattle.std.specs.Prelude.{◌≡◌};
-ghost use Rattle.expr_plan.specs.Groups.{same_key};
+ghost use Rattle.expr_types.specs.Groups.{same_key};
 ghost use Rattle.group_kernels.specs.Runs.{is_next};
 
 use tuple_values::{FieldList, Tuple, compare};

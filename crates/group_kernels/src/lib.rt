@@ -4,6 +4,7 @@
 mod group;
 mod key;
 mod metric;
+mod named;
 mod reduce;
 mod rolled;
 mod rollup;

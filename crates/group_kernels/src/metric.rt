@@ -1,10 +1,10 @@
 // Sums and extremes of a field.
 ghost use Rattle.std.specs.Prelude.{◌≡◌};
 ghost use Rattle.tuple_values.specs.Document.{value_at};
-ghost use Rattle.expr_plan.specs.Groups.{metric_of, long_in, numbers_of, wrapped_sum, foremost};
+ghost use Rattle.expr_types.specs.Groups.{metric_of, long_in, numbers_of, wrapped_sum, foremost};
 ghost use Rattle.group_kernels.specs.Numbers.{of_two, added, nearer};
 
-use expr_plan::Metric;
+use expr_types::Metric;
 use tuple_values::{Text, Tuple, Value};
 
 /// What a metric is over tuples; none where it is absent.

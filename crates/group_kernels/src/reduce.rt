@@ -1,13 +1,13 @@
 // Groups of equal keys, reduced.
 ghost use Rattle.std.specs.Prelude.{◌≡◌, List, [], ◌∷◌, true, false, length, IfOk};
 ghost use Rattle.tuple_values.specs.Document.{Doc};
-ghost use Rattle.expr_plan.specs.Groups.{reduce_list};
-ghost use Rattle.expr_plan.specs.Orders.{IsSortedOver};
+ghost use Rattle.expr_types.specs.Groups.{reduce_list};
+ghost use Rattle.expr_types.specs.Orders.{IsSortedOver};
 ghost use Rattle.group_kernels.specs.ReduceState as reduce;
 
 use crate::group::GroupKernel;
 use crate::work::Work;
-use expr_plan::GroupOp;
+use expr_types::GroupOp;
 use kernel_laws::{Ask, Kernel};
 use std::alloc::Global;
 use tuple_values::{FieldList, Memory, TryCopy, Tuple};

@@ -1,13 +1,14 @@
 // Groups of equal keys, in numbers.
 ghost use Rattle.std.specs.Prelude.{◌≡◌, List, [], ◌∷◌, true, false, length, IfOk};
 ghost use Rattle.tuple_values.specs.Document.{Doc};
-ghost use Rattle.expr_plan.specs.Groups.{rollup_list};
-ghost use Rattle.expr_plan.specs.Orders.{IsSortedOver};
+ghost use Rattle.expr_types.specs.Groups.{rollup_list};
+ghost use Rattle.expr_types.specs.Orders.{IsSortedOver};
 ghost use Rattle.group_kernels.specs.RollupState as rollup;
 
 use crate::group::GroupKernel;
+use crate::named::all_named;
 use crate::work::Work;
-use expr_plan::Metrics;
+use expr_types::Metrics;
 use kernel_laws::{Ask, Kernel};
 use std::alloc::Global;
 use tuple_values::{FieldList, Memory, TryCopy, Tuple};
@@ -28,7 +29,7 @@ impl RollupKernel {
         ensures lives { IfOk result (λ k. rollup.failed k ≡ false) }
     {
         let over = over.copy(alloc)?;
-        let metrics = metrics.copy(alloc)?;
+        let metrics = all_named(alloc, metrics.as_slice())?;
         let groups = GroupKernel::make(alloc, over, Work::Rollup(metrics));
         Ok(RollupKernel { groups })
     }

@@ -1,7 +1,7 @@
 // What no clause can say: that the definitions mean what the rules say, and that each call that
 // takes memory succeeds.
 use crate::{ReduceKernel, RollupKernel, UniqueKernel};
-use expr_plan::{GroupOp, Metric, Metrics};
+use expr_types::{GroupOp, Metric, Metrics};
 use kernel_laws::{Ask, Kernel};
 use sort_spec::{SortSpec, SortTerm};
 use std::alloc::Global;

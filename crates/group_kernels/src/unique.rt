@@ -1,8 +1,8 @@
 // The first tuple of each key.
 ghost use Rattle.std.specs.Prelude.{◌≡◌, List, [], ◌∷◌, true, false, length, IfOk};
 ghost use Rattle.tuple_values.specs.Document.{Doc};
-ghost use Rattle.expr_plan.specs.Groups.{unique_list};
-ghost use Rattle.expr_plan.specs.Orders.{IsSortedOver};
+ghost use Rattle.expr_types.specs.Groups.{unique_list};
+ghost use Rattle.expr_types.specs.Orders.{IsSortedOver};
 ghost use Rattle.group_kernels.specs.UniqueState as unique;
 
 use crate::key::same_key;

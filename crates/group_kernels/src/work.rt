@@ -1,10 +1,11 @@
 // What is made of the tuples of one key.
 ghost use Rattle.std.specs.Prelude.{◌≡◌, IfOk, take};
-ghost use Rattle.expr_plan.specs.Groups.{reduced, with_group};
+ghost use Rattle.expr_types.specs.Groups.{reduced, with_group};
 ghost use Rattle.group_kernels.specs.Work.{worked};
 
+use crate::named::Named;
 use crate::rolled::rolled;
-use expr_plan::{GroupOp, Metrics};
+use expr_types::GroupOp;
 use sort_spec::sort_tuples;
 use std::alloc::Global;
 use tuple_values::{FieldList, Memory, Text, Tuple, Tuples, Value};
@@ -15,7 +16,7 @@ pub(crate) enum Work {
     /// The first by a sort, with the first so many as its field `group`.
     Reduce(GroupOp),
     /// The fields of the key and the metrics.
-    Rollup(Metrics),
+    Rollup(Vec<Named>),
 }
 
 /// One tuple of all tuples of a key, which are moved in.
@@ -29,7 +30,7 @@ pub(crate) fn worked(
 {
     match work {
         Work::Reduce(op) => reduced(alloc, op, run),
-        Work::Rollup(metrics) => rolled(alloc, names, metrics.as_slice(), run.as_slice()),
+        Work::Rollup(metrics) => rolled(alloc, names, metrics, &run),
     }
 }
 

@@ -10,7 +10,7 @@ use Rattle.sort_spec.specs.declared.term.SortTerm.{SortTerm}
 use Rattle.sort_spec.proofs.SortLemmas.{ins_append, sorted_stays}
 use Rattle.sort_spec.proofs.StableLemmas.{ins_ascends}
 use Rattle.sort_spec.proofs.TermLemmas.{less_is_weak}
-use Rattle.expr_plan.specs.Orders.{top_list}
+use Rattle.expr_types.specs.Orders.{top_list}
 
 -- the first of the first are the first
 pub take-take : {X : Type 0} (n : ℕ) (xs : List X) → take n (take n xs) ≡ take n xs

@@ -8,7 +8,8 @@ mod sorted;
 #[cfg(test)]
 mod tests;
 mod top;
+mod top_state;
 
 pub use merge_state::MergeKernel;
 pub use sort::SortKernel;
-pub use top::TopKernel;
+pub use top_state::TopKernel;

@@ -8,7 +8,7 @@ ghost use Rattle.std.specs.List.{AllByRecursion};
 ghost use Rattle.kernel_laws.specs.Rests.{Rests};
 ghost use Rattle.sort_spec.specs.Sorting.{ins_sort, IsAscending};
 ghost use Rattle.sort_spec.specs.Terms.{less};
-ghost use Rattle.expr_plan.specs.Orders.{merge_list};
+ghost use Rattle.expr_types.specs.Orders.{merge_list};
 ghost use Rattle.order_kernels.specs.MergeState as merging;
 ghost use Rattle.order_kernels.specs.Slots.{held, flags, joined, AreFlows, IsKnown, AreKnown};
 ghost use Rattle.order_kernels.specs.Slots.{IsFresh, IsForemost};

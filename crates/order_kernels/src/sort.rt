@@ -1,11 +1,11 @@
 // All tuples of an input in order.
 ghost use Rattle.std.specs.Prelude.{◌≡◌, List, [], ◌∷◌, true, false, length, IfOk};
 ghost use Rattle.tuple_values.specs.Document.{Doc};
-ghost use Rattle.expr_plan.specs.Orders.{sort_list};
+ghost use Rattle.expr_types.specs.Orders.{sort_list};
 ghost use Rattle.order_kernels.specs.SortState as sort;
 
 use crate::sorted::sorted_back;
-use kernel_laws::{Ask, Kernel};
+use kernel_laws::{Ask, Kernel, OneInput};
 use sort_spec::SortSpec;
 use std::alloc::Global;
 use std::mem;
@@ -18,8 +18,7 @@ pub struct SortKernel {
     by: SortSpec,
     // From the end of the input on what is still to be given, the last in front.
     taken: Vec<Tuple>,
-    ended: bool,
-    failed: bool,
+    input: OneInput,
 }
 
 impl SortKernel {
@@ -36,8 +35,7 @@ impl SortKernel {
             alloc,
             by,
             taken: Vec::new(alloc),
-            ended: false,
-            failed: false,
+            input: OneInput::open(),
         })
     }
 }
@@ -62,42 +60,23 @@ impl Kernel for SortKernel {
     }
 
     fn ask(&mut self) -> Result<Ask, Memory> {
-        if self.failed {
-            return Err(Memory::OutOfMemory);
+        if !self.input.has_ended() {
+            return self.input.answer(None);
         }
-        if !self.ended {
-            return Ok(Ask::Need(0));
-        }
-        match self.taken.pop() {
-            Some(tuple) => Ok(Ask::Emit(tuple)),
-            None => Ok(Ask::End),
-        }
+        let next = self.taken.pop();
+        self.input.answer(next)
     }
 
     #[tactic(auto, using(kernel_laws::proofs::RestLemmas::rest_steps))]
     fn feed(&mut self, _input: u32, tuple: Option<Tuple>) -> Result<(), Memory> {
-        if self.failed {
-            return Err(Memory::OutOfMemory);
-        }
-        match tuple {
-            Some(tuple) => {
-                if self.taken.push(tuple).is_err() {
-                    self.failed = true;
-                    return Err(Memory::OutOfMemory);
-                }
-            }
-            None => {
-                let taken = mem::replace(&mut self.taken, Vec::new(self.alloc));
-                match sorted_back(taken, &self.by) {
-                    Ok(sorted) => self.taken = sorted,
-                    Err(fault) => {
-                        self.failed = true;
-                        return Err(fault);
-                    }
-                }
-                self.ended = true;
-            }
-        }
-        Ok(())
+        self.input.lives()?;
+        let Some(tuple) = tuple else {
+            let taken = mem::replace(&mut self.taken, Vec::new(self.alloc));
+            let sorted = sorted_back(taken, &self.by);
+            self.taken = self.input.keep(sorted)?;
+            self.input.end();
+            return Ok(());
+        };
+        self.input.push(&mut self.taken, tuple)
     }
 }

@@ -1,6 +1,6 @@
 // Tuples in order, as the kernels keep them.
-ghost use Rattle.std.specs.Prelude.{◌≡◌, IfOk, reverse, take};
-ghost use Rattle.expr_plan.specs.Orders.{sort_list, top_list};
+ghost use Rattle.std.specs.Prelude.{◌≡◌, ◌≤◌, IfOk, reverse, take, vec_len};
+ghost use Rattle.expr_types.specs.Orders.{sort_list, top_list};
 
 use sort_spec::{SortSpec, sort_tuples};
 use tuple_values::{Memory, Tuple, Tuples};
@@ -16,7 +16,8 @@ pub(crate) fn sorted_back(tuples: Vec<Tuple>, by: &SortSpec) -> Result<Vec<Tuple
 
 /// The first so many tuples by a sort.
 pub(crate) fn first_sorted(tuples: Vec<Tuple>, n: u64, by: &SortSpec) -> Result<Vec<Tuple>, Memory>
-    ensures { IfOk result (λ first. first.items ≡ top_list n by.now tuples.items) }
+    ensures first { IfOk result (λ first. first.items ≡ top_list n by.now tuples.items) }
+    ensures few { IfOk result (λ first. vec_len first ≤ n) }
 {
     let mut sorted = sort_tuples(Tuples::from_vec(tuples), by)?.into_vec();
     if n < sorted.len() as u64 {

@@ -1,27 +1,17 @@
 // The first tuples of an input by a sort.
 ghost use Rattle.std.specs.Prelude.{◌≡◌, List, [], ◌∷◌, ◌++◌, reverse, true, false, length, IfOk};
+ghost use Rattle.std.specs.Prelude.{◌+◌, ◌*◌, ◌≤◌, vec_len};
 ghost use Rattle.tuple_values.specs.Document.{Doc};
-ghost use Rattle.expr_plan.specs.Orders.{top_list};
+ghost use Rattle.expr_types.specs.Orders.{top_list};
 ghost use Rattle.order_kernels.specs.TopState as top;
 
 use crate::sorted::first_sorted;
-use kernel_laws::{Ask, Kernel};
+use crate::top_state::TopKernel;
+use kernel_laws::{Ask, Kernel, OneInput};
 use sort_spec::SortSpec;
 use std::alloc::Global;
 use std::mem;
 use tuple_values::{Memory, TryCopy, Tuple};
-
-/// Gives the first `n` tuples of its input by a sort. It keeps about twice as many at most.
-#[derive(Debug, Drop)]
-pub struct TopKernel {
-    alloc: Global,
-    n: u64,
-    sort: SortSpec,
-    // From the end of the input on what is still to be given, the last in front.
-    taken: Vec<Tuple>,
-    ended: bool,
-    failed: bool,
-}
 
 impl TopKernel {
     /// Gives the first `n` by these terms; tuples that tie stay in their order.
@@ -38,16 +28,17 @@ impl TopKernel {
             n,
             sort,
             taken: Vec::new(alloc),
-            ended: false,
-            failed: false,
+            input: OneInput::open(),
         })
     }
 }
 
 // The tuples and one more. Where there are more than twice `n`, only the first `n` are kept.
 fn with_one(taken: Vec<Tuple>, tuple: Tuple, n: u64, sort: &SortSpec) -> Result<Vec<Tuple>, Memory>
-    ensures { IfOk result (λ kept. (rest : List Doc) → top_list n sort.now (kept.items ++ rest)
+    ensures first { IfOk result (λ kept. (rest : List Doc)
+        → top_list n sort.now (kept.items ++ rest)
         ≡ top_list n sort.now (taken.items ++ tuple ∷ rest)) }
+    ensures few { IfOk result (λ kept. vec_len kept ≤ 2 * n + 1) }
 {
     let mut all = taken;
     all.push(tuple)?;
@@ -60,7 +51,8 @@ fn with_one(taken: Vec<Tuple>, tuple: Tuple, n: u64, sort: &SortSpec) -> Result<
 
 // The first `n`, the last in front.
 fn first_back(taken: Vec<Tuple>, n: u64, sort: &SortSpec) -> Result<Vec<Tuple>, Memory>
-    ensures { IfOk result (λ first. reverse first.items ≡ top_list n sort.now taken.items) }
+    ensures first { IfOk result (λ first. reverse first.items ≡ top_list n sort.now taken.items) }
+    ensures few { IfOk result (λ first. vec_len first ≤ n) }
 {
     let mut first = first_sorted(taken, n, sort)?;
     first.reverse();
@@ -87,43 +79,25 @@ impl Kernel for TopKernel {
     }
 
     fn ask(&mut self) -> Result<Ask, Memory> {
-        if self.failed {
-            return Err(Memory::OutOfMemory);
+        if !self.input.has_ended() {
+            return self.input.answer(None);
         }
-        if !self.ended {
-            return Ok(Ask::Need(0));
-        }
-        match self.taken.pop() {
-            Some(tuple) => Ok(Ask::Emit(tuple)),
-            None => Ok(Ask::End),
-        }
+        let next = self.taken.pop();
+        self.input.answer(next)
     }
 
     #[tactic(auto, using(kernel_laws::proofs::RestLemmas::rest_steps))]
     fn feed(&mut self, _input: u32, tuple: Option<Tuple>) -> Result<(), Memory> {
-        if self.failed {
-            return Err(Memory::OutOfMemory);
-        }
+        self.input.lives()?;
         let taken = mem::replace(&mut self.taken, Vec::new(self.alloc));
-        match tuple {
-            Some(tuple) => match with_one(taken, tuple, self.n, &self.sort) {
-                Ok(kept) => self.taken = kept,
-                Err(fault) => {
-                    self.failed = true;
-                    return Err(fault);
-                }
-            },
-            None => match first_back(taken, self.n, &self.sort) {
-                Ok(first) => {
-                    self.taken = first;
-                    self.ended = true;
-                }
-                Err(fault) => {
-                    self.failed = true;
-                    return Err(fault);
-                }
-            },
-        }
+        let Some(tuple) = tuple else {
+            let first = first_back(taken, self.n, &self.sort);
+            self.taken = self.input.keep(first)?;
+            self.input.end();
+            return Ok(());
+        };
+        let kept = with_one(taken, tuple, self.n, &self.sort);
+        self.taken = self.input.keep(kept)?;
         Ok(())
     }
 }

@@ -7,9 +7,9 @@ use Rattle.std.specs.declared.cmp.Ordering.{Ordering}
 use Rattle.std.specs.declared.cmp.Ordering.TheVariants.{Less, Equal, Greater}
 use Rattle.tuple_values.specs.Document.{ByteList, Datum, Doc, bytes_cmp, value_at, without, put_by}
 use Rattle.tuple_values.proofs.MapLemmas.{bytes_same}
-use Rattle.expr_plan.specs.Rows.{chosen}
-use Rattle.expr_plan.specs.declared.item.Item.{Item}
-use Rattle.expr_plan.specs.declared.item.Item.TheVariants.{Field, Replace, Concat}
+use Rattle.expr_types.specs.Rows.{chosen}
+use Rattle.expr_types.specs.declared.item.Item.{Item}
+use Rattle.expr_types.specs.declared.item.Item.TheVariants.{Field, Replace, Concat}
 use Rattle.row_kernels.specs.Choosing.{chooses, is_chosen}
 
 -- what a lookup sees past a first field of another name

@@ -6,8 +6,8 @@ use Rattle.std.specs.List.{cons_option, flat_map}
 use Rattle.std.proofs.lemmas.List.{append-nil, take_more}
 use Rattle.std.proofs.lemmas.List.Elements.{filter_map-append}
 use Rattle.tuple_values.specs.Document.{ByteList, Datum, Doc, value_at}
-use Rattle.expr_plan.specs.Conditions.{datum_text}
-use Rattle.expr_plan.specs.Rows.{joined_texts, texts_of}
+use Rattle.expr_types.specs.Conditions.{datum_text}
+use Rattle.expr_types.specs.Rows.{joined_texts, texts_of}
 use Rattle.row_kernels.specs.Joining.{joined_on, joined_maybe}
 
 -- each text behind a delimiter, and one more

@@ -1,8 +1,8 @@
 -- Which items choose a field (own).
 use Rattle.std.specs.Prelude.{List, [], ◌∷◌, Bool, false, ◌||◌, bytes_eq}
 use Rattle.tuple_values.specs.Document.{ByteList}
-use Rattle.expr_plan.specs.declared.item.Item.{Item}
-use Rattle.expr_plan.specs.declared.item.Item.TheVariants.{Field, Replace, Concat}
+use Rattle.expr_types.specs.declared.item.Item.{Item}
+use Rattle.expr_types.specs.declared.item.Item.TheVariants.{Field, Replace, Concat}
 
 -- whether an item chooses the field
 abbrev pub chooses : ByteList → Item → Bool

@@ -1,13 +1,13 @@
 // The tuples that meet a condition.
 ghost use Rattle.std.specs.Prelude.{◌≡◌, List, [], ◌∷◌, true, false, length, IfOk};
 ghost use Rattle.tuple_values.specs.Document.{Doc};
-ghost use Rattle.expr_plan.specs.ConditionViews.{condition_tree};
-ghost use Rattle.expr_plan.specs.Conditions.{having_list};
+ghost use Rattle.expr_types.specs.ConditionViews.{condition_tree};
+ghost use Rattle.expr_types.specs.Conditions.{having_list};
 ghost use Rattle.row_kernels.specs.HavingState as having;
 
 use crate::testing::holds;
-use expr_plan::Condition;
-use kernel_laws::{Ask, Kernel};
+use expr_types::Condition;
+use kernel_laws::{Ask, Kernel, OneInput};
 use std::alloc::Global;
 use tuple_values::{Memory, Tuple};
 
@@ -17,8 +17,7 @@ pub struct HavingKernel {
     alloc: Global,
     condition: Condition,
     held: Option<Tuple>,
-    ended: bool,
-    failed: bool,
+    input: OneInput,
 }
 
 impl HavingKernel {
@@ -35,8 +34,7 @@ impl HavingKernel {
             alloc,
             condition,
             held: None,
-            ended: false,
-            failed: false,
+            input: OneInput::open(),
         })
     }
 }
@@ -61,42 +59,21 @@ impl Kernel for HavingKernel {
     }
 
     fn ask(&mut self) -> Result<Ask, Memory> {
-        if self.failed {
-            return Err(Memory::OutOfMemory);
-        }
-        match self.held.take() {
-            Some(tuple) => Ok(Ask::Emit(tuple)),
-            None => {
-                if self.ended {
-                    Ok(Ask::End)
-                } else {
-                    Ok(Ask::Need(0))
-                }
-            }
-        }
+        let next = self.held.take();
+        self.input.answer(next)
     }
 
     #[tactic(auto, using(kernel_laws::proofs::RestLemmas::rest_steps))]
     fn feed(&mut self, _input: u32, tuple: Option<Tuple>) -> Result<(), Memory> {
-        if self.failed {
-            return Err(Memory::OutOfMemory);
+        self.input.lives()?;
+        let Some(tuple) = tuple else {
+            self.input.end();
+            return Ok(());
+        };
+        let meets = holds(self.alloc, &self.condition, &tuple);
+        if self.input.keep(meets)? {
+            self.held = Some(tuple);
         }
-        match tuple {
-            Some(tuple) => match holds(self.alloc, &self.condition, &tuple) {
-                Ok(true) => {
-                    self.held = Some(tuple);
-                    Ok(())
-                }
-                Ok(false) => Ok(()),
-                Err(fault) => {
-                    self.failed = true;
-                    Err(fault)
-                }
-            },
-            None => {
-                self.ended = true;
-                Ok(())
-            }
-        }
+        Ok(())
     }
 }

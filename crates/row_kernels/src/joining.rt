@@ -1,8 +1,8 @@
 // The texts of fields, joined.
 ghost use Rattle.std.specs.Prelude.{◌≡◌, IfOk, option_map, option_and_then, string_bytes};
 ghost use Rattle.tuple_values.specs.Views.{datum_of};
-ghost use Rattle.expr_plan.specs.Conditions.{datum_text};
-ghost use Rattle.expr_plan.specs.Rows.{joined_texts, texts_of};
+ghost use Rattle.expr_types.specs.Conditions.{datum_text};
+ghost use Rattle.expr_types.specs.Rows.{joined_texts, texts_of};
 ghost use Rattle.row_kernels.specs.Joining.{joined_on, joined_maybe};
 
 use crate::testing::decimal;

@@ -1,12 +1,12 @@
 // Tuples made of the fields of others.
 ghost use Rattle.std.specs.Prelude.{◌≡◌, List, [], ◌∷◌, true, false, length, IfOk};
 ghost use Rattle.tuple_values.specs.Document.{Doc};
-ghost use Rattle.expr_plan.specs.Rows.{select_list};
+ghost use Rattle.expr_types.specs.Rows.{select_list};
 ghost use Rattle.row_kernels.specs.SelectState as select;
 
 use crate::selecting::selected;
-use expr_plan::Items;
-use kernel_laws::{Ask, Kernel};
+use expr_types::Items;
+use kernel_laws::{Ask, Kernel, OneInput};
 use std::alloc::Global;
 use tuple_values::{Memory, TryCopy, Tuple};
 
@@ -16,8 +16,7 @@ pub struct SelectKernel {
     alloc: Global,
     items: Items,
     held: Option<Tuple>,
-    ended: bool,
-    failed: bool,
+    input: OneInput,
 }
 
 impl SelectKernel {
@@ -35,8 +34,7 @@ impl SelectKernel {
             alloc,
             items,
             held: None,
-            ended: false,
-            failed: false,
+            input: OneInput::open(),
         })
     }
 }
@@ -61,41 +59,19 @@ impl Kernel for SelectKernel {
     }
 
     fn ask(&mut self) -> Result<Ask, Memory> {
-        if self.failed {
-            return Err(Memory::OutOfMemory);
-        }
-        match self.held.take() {
-            Some(tuple) => Ok(Ask::Emit(tuple)),
-            None => {
-                if self.ended {
-                    Ok(Ask::End)
-                } else {
-                    Ok(Ask::Need(0))
-                }
-            }
-        }
+        let next = self.held.take();
+        self.input.answer(next)
     }
 
     #[tactic(auto, using(kernel_laws::proofs::RestLemmas::rest_steps))]
     fn feed(&mut self, _input: u32, tuple: Option<Tuple>) -> Result<(), Memory> {
-        if self.failed {
-            return Err(Memory::OutOfMemory);
-        }
-        match tuple {
-            Some(tuple) => match selected(self.alloc, self.items.as_slice(), tuple) {
-                Ok(made) => {
-                    self.held = Some(made);
-                    Ok(())
-                }
-                Err(fault) => {
-                    self.failed = true;
-                    Err(fault)
-                }
-            },
-            None => {
-                self.ended = true;
-                Ok(())
-            }
-        }
+        self.input.lives()?;
+        let Some(tuple) = tuple else {
+            self.input.end();
+            return Ok(());
+        };
+        let made = selected(self.alloc, self.items.as_slice(), tuple);
+        self.held = Some(self.input.keep(made)?);
+        Ok(())
     }
 }

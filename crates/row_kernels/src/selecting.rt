@@ -6,11 +6,11 @@ ghost use Rattle.std.specs.Ordering.{is_eq};
 ghost use Rattle.tuple_values.specs.Document.{value_at, over};
 ghost use Rattle.tuple_values.specs.Order.{datum_cmp};
 ghost use Rattle.tuple_values.specs.Views.{datum_of};
-ghost use Rattle.expr_plan.specs.Rows.{chosen, with_value, with_text, changed, selected};
+ghost use Rattle.expr_types.specs.Rows.{chosen, with_value, with_text, changed, selected};
 ghost use Rattle.row_kernels.specs.Choosing.{chooses, is_chosen};
 
 use crate::joining::joined;
-use expr_plan::Item;
+use expr_types::Item;
 use std::alloc::Global;
 use tuple_values::{Memory, Text, TryCopy, Tuple, Value, compare};
 

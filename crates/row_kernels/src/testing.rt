@@ -4,13 +4,13 @@ ghost use Rattle.std.specs.Fmt.{signed_decimal};
 ghost use Rattle.std.specs.Option.{option_map_or};
 ghost use Rattle.tuple_values.specs.Document.{value_at};
 ghost use Rattle.tuple_values.specs.Views.{datum_of};
-ghost use Rattle.expr_plan.specs.ConditionTree.{trees_of};
-ghost use Rattle.expr_plan.specs.ConditionViews.{condition_tree, condition_trees};
-ghost use Rattle.expr_plan.specs.Conditions.{passes, passes_beside, holds, all_hold, any_holds};
-ghost use Rattle.expr_plan.specs.Conditions.{datum_number};
+ghost use Rattle.expr_types.specs.ConditionTree.{trees_of};
+ghost use Rattle.expr_types.specs.ConditionViews.{condition_tree, condition_trees};
+ghost use Rattle.expr_types.specs.Conditions.{passes, passes_beside, holds, all_hold, any_holds};
+ghost use Rattle.expr_types.specs.Conditions.{datum_number};
 ghost use Rattle.std.specs.Prelude.{false};
 
-use expr_plan::{Comparison, Condition};
+use expr_types::{Comparison, Condition};
 use std::alloc::Global;
 use std::cmp::Ordering;
 use tuple_values::{Memory, Text, Tuple, Value, whole};

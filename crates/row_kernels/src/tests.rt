@@ -1,7 +1,7 @@
 // What no clause can say: that the definitions mean what the rules say, and that each call that
 // takes memory succeeds.
 use crate::{HavingKernel, SelectKernel};
-use expr_plan::{Comparison, Condition, Item, Items};
+use expr_types::{Comparison, Condition, Item, Items};
 use kernel_laws::{Ask, Kernel};
 use std::alloc::Global;
 use std::test::Fail;

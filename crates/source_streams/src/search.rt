@@ -3,13 +3,13 @@ ghost use Rattle.std.specs.Prelude.{◌≡◌, ◌<◌, ◌==◌, ◌%◌, ◌++
 ghost use Rattle.query_syntax.specs.Matching.{matches};
 ghost use Rattle.sort_spec.specs.Sorting.{ins_sort};
 ghost use Rattle.sort_spec.specs.Terms.{less};
-ghost use Rattle.expr_plan.specs.Sources.{search_parts, first_rows, then_by_id, cut_to};
+ghost use Rattle.expr_types.specs.Sources.{search_parts, first_rows, then_by_id, cut_to};
 ghost use Rattle.source_streams.specs.Cuts.{documents_of};
 ghost use Rattle.source_streams.specs.Parts.{is_of_part, part_of, keys_of};
 ghost use Rattle.source_streams.specs.Reads.{IsNext, searched};
 
 use crate::Part;
-use expr_plan::Expr;
+use expr_types::Expr;
 use query_syntax::Query;
 use shard_versions::{Cut, CutPart, Snapshot};
 use sort_spec::{SortSpec, SortTerm};

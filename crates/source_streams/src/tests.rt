@@ -1,7 +1,7 @@
 // What no clause can say: that the definitions mean what the rules say, and that each call that
 // takes memory succeeds.
 use crate::{Part, SearchCursor, TupleOnce};
-use expr_plan::Expr;
+use expr_types::Expr;
 use query_syntax::read_query;
 use shard_versions::{Cut, CutPart, Entry, ShardState, Snapshot, Step, are_storable};
 use sort_spec::{SortSpec, SortTerm};

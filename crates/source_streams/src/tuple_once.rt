@@ -1,9 +1,9 @@
 // The source of one tuple.
 ghost use Rattle.std.specs.Prelude.{◌≡◌, IsOk, IsSome, IfOk};
-ghost use Rattle.expr_plan.specs.Sources.{tuple_fields};
+ghost use Rattle.expr_types.specs.Sources.{tuple_fields};
 ghost use Rattle.source_streams.specs.Reads.{IsNext, told};
 
-use expr_plan::Expr;
+use expr_types::Expr;
 use std::alloc::Global;
 use std::marker::Model;
 use tuple_values::{Memory, Tuple};

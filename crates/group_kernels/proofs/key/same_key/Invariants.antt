@@ -2,7 +2,7 @@ use Rattle.std.proofs.Common.{◌≡◌, drop}
 use Rattle.std.specs.List.{list_all}
 use Rattle.std.specs.Ordering.{is_eq}
 use Rattle.sort_spec.specs.Terms.{field_cmp}
-use Rattle.expr_plan.specs.Groups.{same_key}
+use Rattle.expr_types.specs.Groups.{same_key}
 use Rattle.group_kernels.proofs.key.same_key.Given as goal
 
 -- the values so far are equal, so the other fields decide

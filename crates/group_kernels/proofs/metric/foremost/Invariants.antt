@@ -1,5 +1,5 @@
 use Rattle.std.proofs.Common.{◌≡◌, take}
-use Rattle.expr_plan.specs.Groups.{foremost, numbers_of}
+use Rattle.expr_types.specs.Groups.{foremost, numbers_of}
 use Rattle.group_kernels.specs.Numbers.{of_two}
 use Rattle.group_kernels.proofs.metric.foremost.Given as goal
 

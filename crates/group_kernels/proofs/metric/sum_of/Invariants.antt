@@ -1,5 +1,5 @@
 use Rattle.std.proofs.Common.{◌≡◌, take}
-use Rattle.expr_plan.specs.Groups.{wrapped_sum, numbers_of}
+use Rattle.expr_types.specs.Groups.{wrapped_sum, numbers_of}
 use Rattle.group_kernels.proofs.metric.sum_of.Given as goal
 
 -- the sum of the numbers so far

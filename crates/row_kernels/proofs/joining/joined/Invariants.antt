@@ -1,6 +1,6 @@
 use Rattle.std.proofs.Common.{◌≡◌, take}
 use Rattle.std.specs.Prelude.{option_map, string_bytes}
-use Rattle.expr_plan.specs.Rows.{joined_texts, texts_of}
+use Rattle.expr_types.specs.Rows.{joined_texts, texts_of}
 use Rattle.row_kernels.proofs.joining.joined.Given as goal
 
 -- the texts of the fields so far are joined

@@ -1,5 +1,5 @@
 use Rattle.std.proofs.Common.{◌≡◌, drop, fold}
-use Rattle.expr_plan.specs.Rows.{changed}
+use Rattle.expr_types.specs.Rows.{changed}
 use Rattle.row_kernels.proofs.selecting.all_changed.Given as goal
 
 -- the changes that are still to come change what there is

@@ -1,7 +1,7 @@
 use Rattle.std.proofs.Common.{◌≡◌, [], drop}
 use Rattle.std.specs.List.{filter_map}
 use Rattle.tuple_values.specs.Document.{over}
-use Rattle.expr_plan.specs.Rows.{chosen}
+use Rattle.expr_types.specs.Rows.{chosen}
 use Rattle.row_kernels.proofs.selecting.all_chosen.Given as goal
 
 -- the fields that are still to be chosen of what is left are put into what is made

@@ -1,7 +1,7 @@
 use Rattle.std.proofs.Common.{◌≡◌, drop}
-use Rattle.expr_plan.specs.ConditionTree.{trees_of}
-use Rattle.expr_plan.specs.ConditionViews.{condition_trees}
-use Rattle.expr_plan.specs.Conditions.{all_hold, any_holds}
+use Rattle.expr_types.specs.ConditionTree.{trees_of}
+use Rattle.expr_types.specs.ConditionViews.{condition_trees}
+use Rattle.expr_types.specs.Conditions.{all_hold, any_holds}
 use Rattle.row_kernels.proofs.testing.+testing.Given as goal
 
 -- the conditions so far hold, so the others decide

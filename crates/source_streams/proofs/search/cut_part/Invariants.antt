@@ -1,5 +1,5 @@
 use Rattle.std.proofs.Common.{◌≡◌, ◌++◌, map, drop}
-use Rattle.expr_plan.specs.Sources.{cut_to}
+use Rattle.expr_types.specs.Sources.{cut_to}
 use Rattle.source_streams.specs.Parts.{part_of}
 use Rattle.source_streams.proofs.search.cut_part.Given as goal
 

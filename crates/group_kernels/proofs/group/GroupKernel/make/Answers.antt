@@ -1,6 +1,6 @@
 use Rattle.std.proofs.Common.{ap, map, ◌∙◌}
 use Rattle.group_kernels.specs.Runs.{spans}
-use Rattle.expr_plan.specs.Groups.{same_key}
+use Rattle.expr_types.specs.Groups.{same_key}
 use Rattle.group_kernels.specs.Work.{worked}
 use Rattle.group_kernels.proofs.SpanLemmas.{spans-sorted}
 use Rattle.group_kernels.proofs.group.GroupKernel.make.Goals as goal

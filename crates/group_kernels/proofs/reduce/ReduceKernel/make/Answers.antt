@@ -1,6 +1,6 @@
 use Rattle.std.proofs.Common.{sym, ◌∙◌, ap, subst, map}
-use Rattle.expr_plan.specs.Groups.{same_key, groups, reduced}
-use Rattle.expr_plan.specs.Orders.{IsSortedOver}
+use Rattle.expr_types.specs.Groups.{same_key, groups, reduced}
+use Rattle.expr_types.specs.Orders.{IsSortedOver}
 use Rattle.group_kernels.proofs.reduce.ReduceKernel.make.Goals as goal
 
 pub returns-clause-out : goal.returns-clause-out

@@ -1,5 +1,5 @@
 use Rattle.std.proofs.Common.{refl}
-use Rattle.expr_plan.specs.Sources.{search_list}
+use Rattle.expr_types.specs.Sources.{search_list}
 use Rattle.source_streams.proofs.search.SearchCursor.make.Goals as goal
 
 pub returns : goal.returns

@@ -1,0 +1,54 @@
+// Metrics with their names.
+ghost use Rattle.std.specs.Prelude.{◌≡◌, IfOk, ◌++◌, codes, map};
+ghost use Rattle.expr_types.specs.Groups.{metric_name};
+
+use expr_types::Metric;
+use std::alloc::Global;
+use tuple_values::{Memory, Text, TryCopy};
+
+/// A metric with its name, so that it is made once and not for each group.
+#[derive(Debug, Drop)]
+pub(crate) struct Named {
+    pub name: Text,
+    pub metric: Metric,
+    ghost named: { name ≡ metric_name metric },
+}
+
+/// Metrics with their names.
+pub(crate) fn all_named(alloc: Global, metrics: &[Metric]) -> Result<Vec<Named>, Memory>
+    ensures { IfOk result (λ all. map (λ n. n.metric) all.items ≡ metrics.now) }
+{
+    let mut all = Vec::new(alloc);
+    for metric in metrics {
+        all.push(with_name(alloc, metric)?)?;
+    }
+    Ok(all)
+}
+
+fn with_name(alloc: Global, metric: &Metric) -> Result<Named, Memory>
+    ensures { IfOk result (λ named. named.metric ≡ metric.now) }
+{
+    let name = metric_name(alloc, metric)?;
+    let metric = metric.copy(alloc)?;
+    Ok(Named { name, metric })
+}
+
+fn metric_name(alloc: Global, metric: &Metric) -> Result<Text, Memory>
+    ensures { IfOk result (λ name. name ≡ metric_name metric.now) }
+{
+    match metric {
+        Metric::Sum(field) => over_field(alloc, "sum(", field),
+        Metric::Min(field) => over_field(alloc, "min(", field),
+        Metric::Max(field) => over_field(alloc, "max(", field),
+        Metric::Count => Text::of(alloc, "count(*)"),
+    }
+}
+
+fn over_field(alloc: Global, head: &str, field: &Text) -> Result<Text, Memory>
+    ensures { IfOk result (λ name. name ≡ head.now ++ field.now ++ codes ")") }
+{
+    let mut name = String::from_str(alloc, head)?;
+    name.push_str(field.as_str())?;
+    name.push_str(")")?;
+    Ok(Text::from_string(name))
+}
