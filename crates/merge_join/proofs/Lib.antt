@@ -1,0 +1,2 @@
+pub mod ExistLemmas
+pub mod KeyLemmas

@@ -1,0 +1,4 @@
+pub mod ExistState
+pub mod JoinLists
+pub mod Keys
+pub mod Sides

@@ -1,0 +1,10 @@
+//! Joins of two inputs that are in the order of their keys.
+#![tactic(auto)]
+
+mod exist;
+mod side;
+mod term;
+#[cfg(test)]
+mod tests;
+
+pub use exist::ExistKernel;
