@@ -16,7 +16,7 @@ use Rattle.exchange_rules.specs.Own.{by_writer, own_entries, step_at, steps_at}
 use Rattle.exchange_rules.proofs.AloneLemmas.{drop_take, drop_more}
 
 -- a part of a log is its two parts
-between_join : (a u b : ℕ) (h : Log) → a ≤ u → u ≤ b
+pub between_join : (a u b : ℕ) (h : Log) → a ≤ u → u ≤ b
     → between a b h ≡ between a u h ++ between u b h
 between_join a u b h p q =
     let n : b - a ≡ (u - a) + (b - u) = omega arith in
@@ -31,7 +31,8 @@ between_join a u b h p q =
     ∙ ap (λ x. between a u h ++ x) tail)))
 
 -- the writer's entries of two logs
-by_writer-append : (me : ℕ) (a b : Log) → by_writer me (a ++ b) ≡ by_writer me a ++ by_writer me b
+pub by_writer-append : (me : ℕ) (a b : Log)
+    → by_writer me (a ++ b) ≡ by_writer me a ++ by_writer me b
 by_writer-append me a b = filter-append (λ (n : Noted). author_of n == me) a b
 
 -- an entry that fails a test
@@ -76,7 +77,7 @@ pub record IsCounted (me : ℕ) (seen : List Log) (had end : List ℕ) (own : Li
   pub counted : own_entries me seen had end c ≡ steps_at c seen own
 
 -- nothing stands between a time and itself
-none_between : (a : ℕ) (h : Log) → between a a h ≡ []
+pub none_between : (a : ℕ) (h : Log) → between a a h ≡ []
 none_between a h =
     let e : a - a ≡ 0 = omega arith in
     drop_take h a a (omega arith) ∙ ap (λ n. take n (drop a h)) e

@@ -1,4 +1,5 @@
 pub mod GrowthLemmas
+pub mod ToldLemmas
 pub mod FollowLemmas
 pub mod ReachLemmas
 pub mod StandLemmas
@@ -6,7 +7,11 @@ pub mod PrimitiveLemmas
 pub mod AloneLemmas
 pub mod CountLemmas
 pub mod LookingLemmas
+pub mod RowLemmas
 pub mod StepLemmas
 pub mod ShardLemmas
 pub mod CellLemmas
 pub mod RoutingLemmas
+pub mod DeliveryLemmas
+pub mod BindingLemmas
+mod ExampleLemmas

@@ -16,7 +16,7 @@ use Rattle.exchange_rules.specs.Cells.{Log, history_in}
 use Rattle.exchange_rules.specs.Courses.{Course, ends, looks, makes, and_then, unless_refused, and_ok}
 use Rattle.exchange_rules.specs.Acts.{Act, a_look, a_step, had_after}
 use Rattle.exchange_rules.specs.Following.{rest_after, Follows}
-use Rattle.exchange_rules.specs.Looking.{LooksFirst, IsBehind, AreBehind, RowsLookFirst}
+use Rattle.exchange_rules.specs.Looking.{LooksFirst, IsBehind, AreBehind}
 use Rattle.exchange_rules.specs.Steps.{closed, is_full, fitting, write_course, settle_unless}
 use Rattle.exchange_rules.specs.Rows.{Layout, each_shard, write_at, settle_at, shares_of, writes_course, settle_all, finish_course, part_of, cut_shards, cut_course}
 use Rattle.exchange_rules.specs.declared.fault.SiteFault.{SiteFault}
@@ -60,38 +60,39 @@ follows_behind me seen had (makes c step p) (a_step o ∷ acts) q end at last g 
 )
 
 -- a course that looks first does so after any look
-after_look : {A : Type 0} (at : Option ℕ) (p : Course A) → LooksFirst None p → LooksFirst at p
+pub after_look : {A : Type 0} (at : Option ℕ) (p : Course A) → LooksFirst None p
+    → LooksFirst at p
 after_look at (ends a) g = tt
 after_look at (looks other see) g = g
 after_look at (makes other step rest) g = let e : None ≡ Some other = g.0 in absurd (cc)
 
 -- whichever of two courses is taken
-either : {A : Type 0} (at : Option ℕ) (b : Bool) (p q : Course A) → LooksFirst at p
+pub either : {A : Type 0} (at : Option ℕ) (b : Bool) (p q : Course A) → LooksFirst at p
     → LooksFirst at q → LooksFirst at (if b then p else q)
 either at true p q g h = g
 either at false p q g h = h
 
 -- a course that looks first, and then others that do
-then_first : {A B : Type 0} (at : Option ℕ) (p : Course A) (next : A → Course B)
+pub then_first : {A B : Type 0} (at : Option ℕ) (p : Course A) (next : A → Course B)
     → LooksFirst at p → ((a : A) → LooksFirst None (next a)) → LooksFirst at (and_then p next)
 then_first at (ends a) next g k = after_look at (next a) (k a)
 then_first at (looks cell see) next g k = λ log. then_first (Some cell) (see log) next (g log) k
 then_first at (makes cell step rest) next g k = (g.0, then_first None rest next g.1 k)
 
 -- what follows unless there is a refusal
-go_on_first : {A B E : Type 0} (next : A → Course (Result B E))
+pub go_on_first : {A B E : Type 0} (next : A → Course (Result B E))
     → ((a : A) → LooksFirst None (next a))
     → (a : Result A E) → LooksFirst None (unless_refused next a)
 go_on_first next k (Ok a) = k a
 go_on_first next k (Err refusal) = tt
 
 -- the same of what goes on unless refused
-ok_first : {A B E : Type 0} (p : Course (Result A E)) (next : A → Course (Result B E))
+pub ok_first : {A B E : Type 0} (p : Course (Result A E)) (next : A → Course (Result B E))
     → LooksFirst None p → ((a : A) → LooksFirst None (next a)) → LooksFirst None (and_ok p next)
 ok_first p next g k = then_first None p (unless_refused next) g (go_on_first next k)
 
 -- a step that fits, or its refusal, right after a look at its cell
-fitting_first : (limit cell : ℕ) (step : List Kind) (refusal : SiteFault) (h : History)
+pub fitting_first : (limit cell : ℕ) (step : List Kind) (refusal : SiteFault) (h : History)
     → LooksFirst (Some cell) (fitting limit cell step refusal h)
 fitting_first limit cell step refusal h =
     either (Some cell) (is_full limit h step) _ _ tt (refl, tt)
@@ -120,21 +121,21 @@ each_first at shard (suc left) k =
     (λ _. each_first at (shard + 1) left k)
 
 -- so do the Marks of a commit
-settle_all_first : (l : Layout) (collection : ByteList) (written : ℕ → ℕ) (stand : ℕ)
+pub settle_all_first : (l : Layout) (collection : ByteList) (written : ℕ → ℕ) (stand : ℕ)
     → LooksFirst None (settle_all l collection written stand)
 settle_all_first l collection written stand =
     each_first (settle_at l collection written stand) 0 (shards_of l.names collection)
     (λ shard. settle_first l.limit (cell_of l.names collection shard) (written shard) _)
 
 -- and what a commit does after writes
-finish_first : (l : Layout) (collection : ByteList) (share : ℕ → List Kind) (writes : ℕ)
+pub finish_first : (l : Layout) (collection : ByteList) (share : ℕ → List Kind) (writes : ℕ)
     (commit : Bool) → LooksFirst None (finish_course l collection share writes commit)
 finish_first l collection share writes false = tt
 finish_first l collection share writes true =
     settle_all_first l collection (λ shard. length (share shard)) writes
 
 -- and the writes
-writes_first : (l : Layout) (collection : ByteList) (share : ℕ → List Kind) (commit : Bool)
+pub writes_first : (l : Layout) (collection : ByteList) (share : ℕ → List Kind) (commit : Bool)
     → LooksFirst None (writes_course l collection share commit)
 writes_first l collection share commit =
     each_first (write_at l collection share commit) 0 (shards_of l.names collection)
@@ -150,22 +151,10 @@ cut_shards_first names collection shard (suc left) cut =
     (cut ++ part_of collection shard (history_in log) ∷ []))
 
 -- and a cut
-cut_first : (names : List NameShards) (cut : List CutPart) (collections : List ByteList)
+pub cut_first : (names : List NameShards) (cut : List CutPart) (collections : List ByteList)
     → LooksFirst None (cut_course names cut collections)
 cut_first names cut [] = tt
 cut_first names cut (c ∷ collections) =
     then_first None (cut_shards names c 0 (shards_of names c) cut) _
     (cut_shards_first names c 0 (shards_of names c) cut)
     (λ cut. cut_first names cut collections)
-
--- updates, commits and cuts look first
-pub rows_first : RowsLookFirst
-rows_first = record {
-  index = λ l collection writes commit.
-      let share = shares_of l collection writes in
-      ok_first (writes_course l collection share commit) _ (writes_first l collection share commit)
-      (λ _. ok_first (finish_course l collection share (length writes) commit) _
-      (finish_first l collection share (length writes) commit) (λ _. tt));
-  commit = λ l collection. settle_all_first l collection (λ _. 0) 0;
-  cut = λ l collections. cut_first l.names [] collections;
-}

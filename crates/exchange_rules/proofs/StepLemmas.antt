@@ -7,14 +7,15 @@ use Rattle.shard_versions.specs.Sizes.{entries_bytes, kind_bytes}
 use Rattle.shard_versions.specs.declared.entry.Entry.{Entry}
 use Rattle.shard_versions.specs.declared.entry.Kind.{Kind}
 use Rattle.shard_versions.specs.declared.entry.Kind.TheVariants.{Mark}
-use Rattle.exchange_rules.specs.Cells.{in_shard, Log, log_of, signed, write, history_in}
+use Rattle.exchange_rules.specs.Cells.{Log, log_of, signed, write, history_in}
 use Rattle.exchange_rules.specs.Courses.{Course, ends, looks, makes}
 use Rattle.exchange_rules.specs.Following.{Writer}
 use Rattle.exchange_rules.specs.Primitives.{LooksAt, made}
 use Rattle.exchange_rules.specs.Calls.{Stands, IsStopped, Refused, Passed, Tells}
 use Rattle.exchange_rules.specs.Steps.{is_full, fitting, step_course, write_course, settling, settle_course, settle_unless, kinds_of, entries_by, AreBy, writes_in}
+use Rattle.exchange_rules.specs.declared.log_entry.LogEntry.TheVariants as logged
 use Rattle.exchange_rules.specs.declared.fault.SiteFault.{SiteFault}
-use Rattle.exchange_rules.specs.declared.fault.SiteFault.TheVariants.{ShardFull, OutOfMemory}
+use Rattle.exchange_rules.specs.declared.fault.SiteFault.TheVariants.{ShardFull, TopicBound, BookFull, OutOfMemory}
 use Rattle.exchange_rules.proofs.StandLemmas.{stands_none, stands_same, stopped_at, passed_on}
 use Rattle.exchange_rules.proofs.PrimitiveLemmas.{looks_from, made_from}
 
@@ -51,6 +52,12 @@ pub refused_told : (before : ℕ) (old new : Writer) (limit c : ℕ) (step : Lis
     → new ≡ old → Tells refusal before fault
     → Refused before old new (fitting limit c step refusal h) fault
 refused_told before old new limit c step refusal h (ShardFull collection shard n) f e t =
+    (subst (λ x. Stands old new (fitting limit c step refusal h) (ends (Err x)) 0) (sym t)
+    (fitting_refused old new limit c step refusal h f e)).reached
+refused_told before old new limit c step refusal h (TopicBound kept) f e t =
+    (subst (λ x. Stands old new (fitting limit c step refusal h) (ends (Err x)) 0) (sym t)
+    (fitting_refused old new limit c step refusal h f e)).reached
+refused_told before old new limit c step refusal h (BookFull topics) f e t =
     (subst (λ x. Stands old new (fitting limit c step refusal h) (ends (Err x)) 0) (sym t)
     (fitting_refused old new limit c step refusal h f e)).reached
 refused_told before old new limit c step refusal h (OutOfMemory n) f e t =
@@ -115,8 +122,8 @@ pub log_of-signed : (me : ℕ) (es : List Entry) → AreBy me es
 log_of-signed me [] b = refl
 log_of-signed me (e ∷ es) b =
     let rest = log_of-signed me es b.1 in
-    ap (λ n. in_shard (record { by = n; kind = e.kind }) ∷ log_of es) b.0
-    ∙ ap (λ x. in_shard (record { by = me; kind = e.kind }) ∷ x) rest
+    ap (λ n. logged.Shard (record { by = n; kind = e.kind }) ∷ log_of es) b.0
+    ∙ ap (λ x. logged.Shard (record { by = me; kind = e.kind }) ∷ x) rest
 
 -- the counted bytes of entries are those of their kinds
 pub entries_bytes-kinds : (es : List Entry) → entries_bytes es ≡ sum_by kind_bytes (kinds_of es)

@@ -1,17 +1,18 @@
 -- What a call says of its writer: it followed its course, or stopped for want of memory (own).
 use Rattle.std.specs.Prelude.{ℕ, ◌+◌, ◌≡◌, Bool, false, not, count_by, Result, Ok, Err}
 use Rattle.shard_versions.specs.Histories.{is_mark}
-use Rattle.exchange_rules.specs.Cells.{Noted, in_shard, in_book}
+use Rattle.exchange_rules.specs.Cells.{Noted}
 use Rattle.exchange_rules.specs.Courses.{Course, ends}
 use Rattle.exchange_rules.specs.Acts.{own_of, at_owns}
 use Rattle.exchange_rules.specs.Following.{Writer, Reaches, Answers}
+use Rattle.exchange_rules.specs.declared.log_entry.LogEntry.TheVariants as logged
 use Rattle.exchange_rules.specs.declared.fault.SiteFault.{SiteFault}
-use Rattle.exchange_rules.specs.declared.fault.SiteFault.TheVariants.{ShardFull, OutOfMemory}
+use Rattle.exchange_rules.specs.declared.fault.SiteFault.TheVariants.{ShardFull, TopicBound, BookFull, OutOfMemory}
 
 -- whether the entry is a write of a shard
 abbrev pub is_write : Noted → Bool
-is_write (in_shard e) = not (is_mark e.kind)
-is_write (in_book e) = false
+is_write (logged.Shard e) = not (is_mark e.kind)
+is_write (logged.Book e) = false
 
 -- from old to new the writer followed the course down to this rest, and so many of the entries
 -- that it appended are writes
@@ -35,6 +36,8 @@ abbrev pub Refused : {A : Type 0} → ℕ → Writer → Writer → Course (Resu
     → Type 0
 Refused before old new course (ShardFull collection shard stand) =
     Answers old new course (Err (ShardFull collection shard stand))
+Refused before old new course (TopicBound kept) = Answers old new course (Err (TopicBound kept))
+Refused before old new course (BookFull topics) = Answers old new course (Err (BookFull topics))
 Refused before old new course (OutOfMemory stand) = IsStopped before old new course stand
 
 -- a part of a call, before which so many writes stood, followed its course to this answer and
@@ -43,6 +46,12 @@ abbrev pub Passed : {A : Type 0} → ℕ → Writer → Writer → Course (Resul
     → Result A SiteFault → Type 0
 Passed before old new course writes (Ok a) = Stands old new course (ends (Ok a)) writes
 Passed before old new course writes (Err fault) = Refused before old new course fault
+
+-- a part of a call whose answer is how many writes it appended, before which so many stood
+abbrev pub PassedSent : ℕ → Writer → Writer → Course (Result ℕ SiteFault) → Result ℕ SiteFault
+    → Type 0
+PassedSent before old new course (Ok n) = Stands old new course (ends (Ok n)) n
+PassedSent before old new course (Err fault) = Refused before old new course fault
 
 -- a call followed its course to this answer, or stopped for want of memory
 abbrev pub Answered : {A : Type 0} → Writer → Writer → Course (Result A SiteFault)
@@ -53,6 +62,8 @@ Answered old new course (Err fault) = Refused 0 old new course fault
 -- why a call that only looks stopped: for want of memory alone
 abbrev pub Stopped : {A : Type 0} → Writer → Writer → Course A → SiteFault → Type 0
 Stopped old new course (ShardFull collection shard stand) = ⊥
+Stopped old new course (TopicBound kept) = ⊥
+Stopped old new course (BookFull topics) = ⊥
 Stopped old new course (OutOfMemory stand) = IsStopped 0 old new course stand
 
 -- a call that only looks followed its course to this answer and appended no write, or stopped
@@ -63,4 +74,6 @@ Completed old new course (Err fault) = Stopped old new course fault
 -- the fault is this refusal, or want of memory where so many writes stand
 abbrev pub Tells : SiteFault → ℕ → SiteFault → Type 0
 Tells refusal stand (ShardFull collection shard n) = ShardFull collection shard n ≡ refusal
+Tells refusal stand (TopicBound kept) = TopicBound kept ≡ refusal
+Tells refusal stand (BookFull topics) = BookFull topics ≡ refusal
 Tells refusal stand (OutOfMemory n) = n ≡ stand

@@ -6,6 +6,9 @@ pub mod Primitives
 pub mod Calls
 pub mod Steps
 pub mod Rows
+pub mod Deliveries
+pub mod Bindings
 pub mod Own
 pub mod Looking
 pub mod Laws
+pub mod Told

@@ -4,9 +4,15 @@ use Rattle.tuple_values.specs.Document.{ByteList}
 use Rattle.tuple_values.specs.declared.write.Write.{Write}
 use Rattle.shard_versions.specs.declared.cut.CutMark.{CutMark}
 use Rattle.shard_versions.specs.declared.cut.OwnMark.{OwnMark}
+use Rattle.topic_book.specs.declared.topic.TopicKey.{TopicKey}
+use Rattle.topic_book.specs.declared.topic.Binding.{Binding}
 use Rattle.exchange_rules.specs.Cells.{Log}
 use Rattle.exchange_rules.specs.Courses.{Course, ends, looks, makes}
 use Rattle.exchange_rules.specs.Acts.{Act, a_look, a_step}
+use Rattle.exchange_rules.specs.Bindings.{topic_state_course, bind_course, store_course}
+use Rattle.exchange_rules.specs.Deliveries.{send_course}
+use Rattle.exchange_rules.specs.declared.batch.BatchItem.{BatchItem}
+use Rattle.exchange_rules.specs.declared.fault.SiteFault.{SiteFault}
 use Rattle.exchange_rules.specs.Rows.{Layout, index_course, commit_course, cut_course}
 
 -- each step of the course comes right after a look at its cell; the last look was at this one
@@ -27,7 +33,7 @@ AreBehind last [] = Unit {0}
 AreBehind last (a_look m ∷ acts) = AreBehind (Some m) acts
 AreBehind last (a_step o ∷ acts) = IsBehind last o × AreBehind None acts
 
--- updates, commits and cuts look first
+-- updates, commits, cuts, deliveries and the calls on topics look first
 pub record RowsLookFirst : Type 0 where
   pub index : (l : Layout) (collection : ByteList) (writes : List Write) (commit : Bool)
       → LooksFirst None (index_course l collection writes commit)
@@ -35,3 +41,10 @@ pub record RowsLookFirst : Type 0 where
       → LooksFirst None (commit_course l collection)
   pub cut : (l : Layout) (collections : List ByteList)
       → LooksFirst None (cut_course l.names [] collections)
+  pub send : (l : Layout) (dest src : ByteList) (batch : List BatchItem)
+      → LooksFirst None (send_course l dest src batch)
+  pub state : (l : Layout) (key : TopicKey) → LooksFirst None (topic_state_course l.names key)
+  pub bind : (l : Layout) (key : TopicKey) (b : Binding)
+      → LooksFirst None (bind_course l.names key b)
+  pub store : (l : Layout) (key : TopicKey) (upto : List ℕ)
+      → LooksFirst None (store_course {E = SiteFault} l.names key upto)

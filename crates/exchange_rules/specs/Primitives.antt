@@ -1,10 +1,12 @@
--- The two things that a writer can do at a cell: look at it, and append a step to it (own).
-use Rattle.std.specs.Prelude.{ℕ, ◌≡◌, ◌≢◌, List, [], ◌∷◌, ◌++◌, get_or, set, length}
+-- What a writer can do at a cell: look at it, append a step to it, and deliver to it (own).
+use Rattle.std.specs.Prelude.{ℕ, ◌≡◌, ◌≢◌, true, List, [], ◌∷◌, ◌++◌, get_or, map, set, length}
 use Rattle.std.specs.List.{AllByRecursion}
-use Rattle.exchange_rules.specs.Cells.{Log, Deed, author_of}
+use Rattle.shard_versions.specs.declared.entry.Kind.{Kind}
+use Rattle.exchange_rules.specs.Cells.{Log, Deed, write, author_of}
 use Rattle.exchange_rules.specs.Courses.{appended}
 use Rattle.exchange_rules.specs.Acts.{one_more}
 use Rattle.exchange_rules.specs.Following.{Writer}
+use Rattle.exchange_rules.specs.Steps.{closed}
 
 -- the writer after a look at the cell, where these entries had come since it had seen the cell
 abbrev pub looked_with : Writer → ℕ → Log → Writer
@@ -30,3 +32,9 @@ made w cell step = record w {
     count = length step;
   } ∷ [];
 }
+
+-- the writer after a delivery to the cell of which these entries were admitted: they stand right
+-- behind what it has seen, and a Mark behind them; where there are none nothing stands
+abbrev pub delivered : Writer → ℕ → List Kind → Writer
+delivered w cell [] = w
+delivered w cell (k ∷ ks) = made w cell (map write (closed true (k ∷ ks)))

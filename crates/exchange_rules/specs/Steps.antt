@@ -40,6 +40,11 @@ closed false (k ∷ ks) = k ∷ ks
 abbrev pub is_full : ℕ → History → List Kind → Bool
 is_full limit h step = nat_lt limit (entries_bytes h + sum_by kind_bytes step)
 
+-- what is admitted of a delivery doesn't fit with its Mark, where there is any
+abbrev pub is_over : ℕ → History → List Kind → Bool
+is_over limit h [] = false
+is_over limit h (k ∷ ks) = is_full limit h (closed true (k ∷ ks))
+
 -- the step where it fits this history, and else the refusal
 abbrev pub fitting : ℕ → ℕ → List Kind → SiteFault → History → Course (Result (Unit {0}) SiteFault)
 fitting limit at step refusal h =

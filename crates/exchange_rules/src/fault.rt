@@ -1,5 +1,6 @@
 // The refusals of a site's calls.
 use thiserror::Error;
+use topic_book::Binding;
 use tuple_values::Text;
 
 /// Why a call of a site was refused. `stand` counts the writes of this call that were appended
@@ -12,6 +13,16 @@ pub enum SiteFault {
         collection: Text,
         shard: u16,
         stand: u64,
+    },
+    /// The topic is bound to other values, which are these.
+    #[error("TopicBound")]
+    TopicBound {
+        kept: Binding,
+    },
+    /// The topic isn't bound, and 1,000 topics or more are, as many as this number.
+    #[error("BookFull")]
+    BookFull {
+        topics: u64,
     },
     /// An allocation was refused.
     #[error("out of memory")]

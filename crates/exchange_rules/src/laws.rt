@@ -32,7 +32,7 @@ pub fn steps_are_looked_at<A>()
     ensures { StepsAreLookedAt A }
 {}
 
-/// Updates, commits and cuts look first.
+/// Updates, commits, cuts, deliveries and the calls on topics look first.
 pub fn rows_look_first()
     ensures { RowsLookFirst }
 {}

@@ -1,4 +1,4 @@
-use Rattle.exchange_rules.proofs.LookingLemmas.{rows_first}
+use Rattle.exchange_rules.proofs.RowLemmas.{rows_first}
 use Rattle.exchange_rules.proofs.laws.rows_look_first.Goals as goal
 
 pub returns : goal.returns

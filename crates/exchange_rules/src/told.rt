@@ -1,0 +1,12 @@
+// What acts that follow a course tell of the writer's own steps.
+ghost use Rattle.exchange_rules.specs.Told.{FollowingIsTold, FollowingIsLookedAt};
+
+/// What a writer appended while it followed a course is just what its own marks say.
+pub fn following_is_told<A>()
+    ensures { FollowingIsTold A }
+{}
+
+/// Each own mark of a course that looks first has a mark of its cell that ends where it begins.
+pub fn following_is_looked_at<A>()
+    ensures { FollowingIsLookedAt A }
+{}

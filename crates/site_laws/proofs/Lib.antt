@@ -1,0 +1,4 @@
+pub mod CellLemmas
+pub mod KeepLemmas
+pub mod WriteLemmas
+pub mod DutyLemmas

@@ -1,0 +1,3 @@
+pub mod SiteCells
+pub mod Duties
+pub mod Laws
