@@ -3,7 +3,6 @@ use Rattle.std.proofs.Common.{◌≡◌, ℕ, ◌<◌, Bool, true, false, List, 
 use Rattle.std.specs.Prelude.{Result, Ok}
 use Rattle.std.proofs.lemmas.List.{map-append, length-map}
 use Rattle.shard_versions.specs.Deliveries.{mark_by}
-use Rattle.shard_versions.specs.Fitness.{AreStorable, is_storable_kind}
 use Rattle.shard_versions.specs.declared.entry.Entry.{Entry}
 use Rattle.shard_versions.specs.declared.entry.Kind.{Kind}
 use Rattle.shard_versions.specs.declared.entry.Kind.TheVariants.{Mark}
@@ -28,43 +27,37 @@ closed_some false (k ∷ ks) lt = refl
 pub record IsClosed (me : ℕ) (commit : Bool) (step whole : List Entry) : Type 0 where
   pub kinds : kinds_of whole ≡ closed commit (kinds_of step)
   pub own : AreBy me whole
-  pub storable : AreStorable whole
   pub writes : writes_in (kinds_of whole) ≡ writes_in (kinds_of step)
 
 -- by whether there is a commit
 made_closed : (me : ℕ) (commit : Bool) (step : List Entry) → 0 < length step → AreBy me step
-    → AreStorable step
     → IsClosed me commit step (if commit then step ++ mark_by me ∷ [] else step)
-unfolding AreStorable
-made_closed me true step lt own storable =
+made_closed me true step lt own =
     let long : 0 < length (kinds_of step) = simp length-map lt in
     let same : kinds_of (step ++ mark_by me ∷ []) ≡ closed true (kinds_of step) =
     map-append _ step (mark_by me ∷ []) ∙ sym (closed_some true (kinds_of step) long) in
     record {
       kinds = same;
       own = each_append (λ (e : Entry). e.by ≡ me) step (mark_by me ∷ []) own (refl, tt);
-      storable = each_append (λ (e : Entry). is_storable_kind e.kind ≡ true) step
-          (mark_by me ∷ []) storable (refl, tt);
       writes = ap writes_in same ∙ writes_in-closed true (kinds_of step);
     }
-made_closed me false step lt own storable =
+made_closed me false step lt own =
     let long : 0 < length (kinds_of step) = simp length-map lt in
     record {
       kinds = sym (closed_some false (kinds_of step) long);
       own = own;
-      storable = storable;
       writes = refl;
     }
 
 -- the same of the step that was closed
 pub is_closed : (me n : ℕ) (commit : Bool) (step whole : List Entry) → 0 < length step
-    → AreBy me step → AreStorable step → n ≡ me
+    → AreBy me step → n ≡ me
     → whole ≡ (if commit then step ++ mark_by n ∷ [] else step)
     → IsClosed me commit step whole
-is_closed me n commit step whole lt own storable same e =
+is_closed me n commit step whole lt own same e =
     subst (IsClosed me commit step)
     (sym (e ∙ ap (λ x. if commit then step ++ mark_by x ∷ [] else step) same))
-    (made_closed me commit step lt own storable)
+    (made_closed me commit step lt own)
 
 -- nothing is written of an empty step
 pub nothing_written : (w : Writer) (limit c : ℕ) (commit : Bool) (step : List Entry)
@@ -98,12 +91,3 @@ write_passed before old new limit c me commit step whole refusal r lt is p =
     subst (λ x. Passed before old new x n r) (sym some)
     (subst (λ x. Passed before old new (step_course limit c (closed commit ks) refusal) x r)
     is.writes p')
-
--- a Mark alone
-pub mark_by_one : (me n : ℕ) → n ≡ me → AreBy me (mark_by n ∷ [])
-mark_by_one me n e = (e, tt)
-
--- and a Mark can be kept
-pub mark_storable : (n : ℕ) → AreStorable (mark_by n ∷ [])
-unfolding AreStorable
-mark_storable n = (refl, tt)

@@ -9,3 +9,8 @@ pub mod CutLemmas
 pub mod EmptyLemmas
 pub mod PlainLemmas
 pub mod WriteLemmas
+pub mod MayLemmas
+pub mod SendLemmas
+pub mod AdmitLemmas
+pub mod TopicLemmas
+pub mod DeliverLemmas

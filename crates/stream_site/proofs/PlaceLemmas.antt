@@ -58,6 +58,12 @@ pub cell_end : (names : List NameShards) (c : ByteList) (i : ℕ) → length nam
 unfolding cell_of
 cell_end names c i le = ap (λ x. cell_of x c 0) (drop_all i names le)
 
+-- none is counted behind the last collection
+pub cells_end : (names : List NameShards) (i : ℕ) → length names ≤ i
+    → cells_in (drop i names) ≡ 0
+unfolding cells_in
+cells_end names i le = ap cells_in (drop_all i names le)
+
 -- a test of a name, by what it compared
 pub name_test : (name text c : ByteList) (b answer : Bool) → text ≡ name
     → answer ≡ bytes_eq text c → answer ≡ b → bytes_eq name c ≡ b

@@ -12,7 +12,12 @@ use Rattle.shard_versions.specs.declared.entry.Entry.{Entry}
 use Rattle.shard_versions.specs.declared.cut.CutMark.{CutMark}
 use Rattle.shard_versions.specs.declared.cut.OwnMark.{OwnMark}
 use Rattle.topic_book.specs.Cells.{cells_in}
-use Rattle.exchange_rules.specs.Cells.{Log, author_of, log_of, history_in, signed, write}
+use Rattle.topic_book.specs.Books.{Book}
+use Rattle.topic_book.specs.declared.topic.BookEntry.{BookEntry}
+use Rattle.topic_book.specs.declared.topic.BookEntry.TheVariants as book
+use Rattle.exchange_rules.specs.Bindings.{book_seen}
+use Rattle.exchange_rules.specs.Cells.{Log, author_of, book_in, deed_of, log_of, log_of_book, history_in, signed, write}
+use Rattle.exchange_rules.specs.declared.log_entry.LogEntry.TheVariants as logged
 use Rattle.exchange_rules.specs.Courses.{appended}
 use Rattle.exchange_rules.specs.Acts.{one_more}
 use Rattle.exchange_rules.specs.Following.{Writer}
@@ -22,7 +27,7 @@ use Rattle.exchange_rules.specs.Rows.{HasCell, shown_of}
 use Rattle.exchange_rules.specs.Steps.{AreBy, is_full, kinds_of}
 use Rattle.exchange_rules.proofs.AloneLemmas.{all_drop}
 use Rattle.exchange_rules.proofs.StepLemmas.{history_in-log_of, log_of-signed, entries_bytes-kinds}
-use Rattle.stream_site.specs.Plains.{Plain, writer_of, layout_of}
+use Rattle.stream_site.specs.Plains.{Plain, logs_in, writer_of, layout_of}
 
 -- the histories of shards
 abbrev pub histories_of : List Shard → List History
@@ -36,8 +41,8 @@ seen_at p shards c x e lt is =
     let hs = histories_of shards in
     let long : c < length hs = simp length-map lt in
     let longer : c < length (map log_of hs) = simp length-map lt in
-    ap (λ y. get_or (map log_of y ++ [] ∷ []) c []) (sym e)
-    ∙ (get_or_append_left (map log_of hs) ([] ∷ []) [] c longer
+    ap (λ y. get_or (logs_in y p.book) c []) (sym e)
+    ∙ (get_or_append_left (map log_of hs) (log_of_book p.book ∷ []) [] c longer
     ∙ (get_or-map log_of hs c [] [] long
     ∙ ap log_of (get_or-map (λ (y : Shard). y.entries) shards c x [] lt
     ∙ ap (λ (y : Shard). y.entries) (sym is))))
@@ -84,24 +89,25 @@ plain_looked p c upto n marks looks lt e f m l =
     }
 
 -- the cells after a step
-seen_after : (hs : List History) (c : ℕ) (h : History) (step : List Entry) → c < length hs
-    → h ≡ get_or hs c [] → AreBy 1 step
-    → map log_of (set hs c (h ++ step)) ++ [] ∷ []
-    ≡ appended 1 (map log_of hs ++ [] ∷ []) c (map write (kinds_of step))
-seen_after hs c h step lt e by =
+seen_after : (hs : List History) (b : Book) (c : ℕ) (h : History) (step : List Entry)
+    → c < length hs → h ≡ get_or hs c [] → AreBy 1 step
+    → logs_in (set hs c (h ++ step)) b
+    ≡ appended 1 (logs_in hs b) c (map write (kinds_of step))
+seen_after hs b c h step lt e by =
     let logs = map log_of hs in
+    let last = log_of_book b ∷ [] in
     let long : c < length logs = simp length-map lt in
-    let here : get_or (logs ++ [] ∷ []) c [] ≡ log_of h =
-    get_or_append_left logs ([] ∷ []) [] c long
+    let here : get_or (logs ++ last) c [] ≡ log_of h =
+    get_or_append_left logs last [] c long
     ∙ (get_or-map log_of hs c [] [] lt ∙ ap log_of (sym e)) in
     let more : log_of (h ++ step)
-    ≡ get_or (logs ++ [] ∷ []) c [] ++ signed 1 (map write (kinds_of step)) =
+    ≡ get_or (logs ++ last) c [] ++ signed 1 (map write (kinds_of step)) =
     map-append _ h step
     ∙ (ap (λ x. log_of h ++ x) (log_of-signed 1 step by)
     ∙ ap (λ x. x ++ signed 1 (map write (kinds_of step))) (sym here)) in
-    ap (λ x. x ++ [] ∷ []) (map-set log_of hs c (h ++ step))
-    ∙ (sym (set-append_left logs ([] ∷ []) c (log_of (h ++ step)) long)
-    ∙ ap (set (logs ++ [] ∷ []) c) more)
+    ap (λ x. x ++ last) (map-set log_of hs c (h ++ step))
+    ∙ (sym (set-append_left logs last c (log_of (h ++ step)) long)
+    ∙ ap (set (logs ++ last) c) more)
 
 -- a step of a writer that is alone
 pub plain_made : (p : Plain) (shards : List Shard) (c : ℕ) (x y : Shard) (step : List Entry)
@@ -121,11 +127,11 @@ plain_made p shards c x y step from count own e lt is by after f n o =
     ∙ ap (λ (s : Shard). s.entries) (sym is)) in
     let new : histories_of (set shards c y) ≡ set hs c (x.entries ++ step) =
     map-set (λ (s : Shard). s.entries) shards c y ∙ ap (set hs c) after in
-    let seen : map log_of (histories_of (set shards c y)) ++ [] ∷ []
-    ≡ appended 1 (map log_of p.shards ++ [] ∷ []) c deeds =
-    ap (λ z. map log_of z ++ [] ∷ []) new
-    ∙ (seen_after hs c x.entries step long old by
-    ∙ ap (λ z. appended 1 (map log_of z ++ [] ∷ []) c deeds) e) in
+    let seen : logs_in (histories_of (set shards c y)) p.book
+    ≡ appended 1 (logs_in p.shards p.book) c deeds =
+    ap (λ z. logs_in z p.book) new
+    ∙ (seen_after hs p.book c x.entries step long old by
+    ∙ ap (λ z. appended 1 (logs_in z p.book) c deeds) e) in
     let size : length (log_of x.entries) ≡ length x.entries = simp length-map in
     let begun : from ≡ length (get_or w.seen c []) =
     f ∙ (sym size ∙ ap length (sym (seen_at p shards c x e lt is))) in
@@ -226,22 +232,143 @@ by_one : (h : History) → AreBy 1 h → AllByRecursion (λ n. author_of n ≡ 1
 by_one [] a = tt
 by_one (e ∷ h) a = (a.0, by_one h a.1)
 
--- each log has the one writer's entries alone
-logs_by_one : (shards : List Shard) → AllByRecursion (λ (x : Shard). AreBy 1 x.entries) shards
-    → (c : ℕ) → AllByRecursion (λ n. author_of n ≡ 1)
-    (get_or (map log_of (histories_of shards) ++ [] ∷ []) c [])
-logs_by_one [] a zero = tt
-logs_by_one [] a (suc c) = tt
-logs_by_one (x ∷ shards) a zero = by_one x.entries a.0
-logs_by_one (x ∷ shards) a (suc c) = logs_by_one shards a.1 c
+-- the entries of one writer in the book
+book_by_one : (b : Book) → AllByRecursion (λ e. author_of (logged.Book e) ≡ 1) b
+    → AllByRecursion (λ n. author_of n ≡ 1) (log_of_book b)
+book_by_one [] a = tt
+book_by_one (e ∷ b) a = (a.0, book_by_one b a.1)
 
--- where each shard has the one writer's entries alone, the writer is alone
+-- each log has the one writer's entries alone
+logs_by_one : (shards : List Shard) (b : Book)
+    → AllByRecursion (λ (x : Shard). AreBy 1 x.entries) shards
+    → AllByRecursion (λ e. author_of (logged.Book e) ≡ 1) b
+    → (c : ℕ) → AllByRecursion (λ n. author_of n ≡ 1) (get_or (logs_in (histories_of shards) b) c [])
+logs_by_one [] b a m zero = book_by_one b m
+logs_by_one [] b a m (suc c) = tt
+logs_by_one (x ∷ shards) b a m zero = by_one x.entries a.0
+logs_by_one (x ∷ shards) b a m (suc c) = logs_by_one shards b a.1 m c
+
+-- where each shard and the book have the one writer's entries alone, the writer is alone
 pub alone_at : (p : Plain) (shards : List Shard) → histories_of shards ≡ p.shards
-    → AllByRecursion (λ (x : Shard). AreBy 1 x.entries) shards → (had : List ℕ)
+    → AllByRecursion (λ (x : Shard). AreBy 1 x.entries) shards
+    → AllByRecursion (λ e. author_of (logged.Book e) ≡ 1) p.book → (had : List ℕ)
     → IsAlone 1 had (writer_of p).seen
-alone_at p shards e a had c =
-    let logs = map log_of (histories_of shards) ++ [] ∷ [] in
+alone_at p shards e a m had c =
+    let logs = logs_in (histories_of shards) p.book in
     let here = all_drop (λ n. author_of n ≡ 1) (get_or had c 0) (get_or logs c [])
-    (logs_by_one shards a c) in
+    (logs_by_one shards p.book a m c) in
     subst (λ z. AllByRecursion (λ n. author_of n ≡ 1)
-    (drop (get_or had c 0) (get_or (map log_of z ++ [] ∷ []) c []))) e here
+    (drop (get_or had c 0) (get_or (logs_in z p.book) c []))) e here
+
+-- the book stands behind the shards
+pub book_at : (hs : List History) (b : Book) (n : ℕ) → n ≡ length hs
+    → get_or (logs_in hs b) n [] ≡ log_of_book b
+book_at hs b n e = ap (λ x. get_or (logs_in hs b) x []) e ∙ last_of hs
+  where
+    last_of : (hs : List History) → get_or (logs_in hs b) (length hs) [] ≡ log_of_book b
+    last_of [] = refl
+    last_of (h ∷ hs) = last_of hs
+
+-- the book's log is the book
+pub book_in-log_of_book : (b : Book) → book_in (log_of_book b) ≡ b
+book_in-log_of_book [] = refl
+book_in-log_of_book (e ∷ b) = ap (λ x. e ∷ x) (book_in-log_of_book b)
+
+-- what was seen of the book is the book
+pub seen_book : (p : Plain) → cells_in p.names ≡ length p.shards
+    → book_seen (layout_of p) (writer_of p) ≡ p.book
+seen_book p e = ap book_in (book_at p.shards p.book (cells_in p.names) e) ∙ book_in-log_of_book p.book
+
+-- how many entries stand in a cell
+pub cell_long : (hs : List History) (b : Book) (c : ℕ) (h : History) → c < length hs
+    → h ≡ get_or hs c [] → length h ≡ length (get_or (logs_in hs b) c [])
+cell_long hs b c h lt e =
+    let longer : c < length (map log_of hs) = simp length-map lt in
+    let size : length (log_of h) ≡ length h = simp length-map in
+    sym size
+    ∙ ap length (sym (get_or_append_left (map log_of hs) (log_of_book b ∷ []) [] c longer
+    ∙ (get_or-map log_of hs c [] [] lt ∙ ap log_of (sym e))))
+
+-- and in the book's
+pub book_long : (hs : List History) (b : Book) (c : ℕ) → c ≡ length hs
+    → length b ≡ length (get_or (logs_in hs b) c [])
+book_long hs b c e =
+    let size : length (log_of_book b) ≡ length b = simp length-map in
+    sym size ∙ ap length (sym (book_at hs b c e))
+
+-- the log of the book's cell is set
+set_last : (hs : List History) (b d : Log)
+    → set (map log_of hs ++ b ∷ []) (length hs) d ≡ map log_of hs ++ d ∷ []
+set_last [] b d = refl
+set_last (h ∷ hs) b d = ap (λ x. log_of h ∷ x) (set_last hs b d)
+
+-- an entry of the one writer, signed
+signed_one : (e : BookEntry) → author_of (logged.Book e) ≡ 1
+    → signed 1 (deed_of e ∷ []) ≡ logged.Book e ∷ []
+signed_one (book.Bind by key b) m = ap (λ n. logged.Book (book.Bind n key b) ∷ []) (sym m)
+signed_one (book.Store by key upto) m = ap (λ n. logged.Book (book.Store n key upto) ∷ []) (sym m)
+
+-- an entry of the book by a writer that is alone
+pub plain_noted : (p : Plain) (b : Book) (e : BookEntry) (n from : ℕ) (own : List OwnMark)
+    → n ≡ length p.shards → author_of (logged.Book e) ≡ 1 → b ≡ p.book ++ e ∷ []
+    → from ≡ length p.book
+    → own ≡ p.own ++ record { cell = n; from = from; count = 1 } ∷ []
+    → writer_of (record p { book = b; own = own }) ≡ made (writer_of p) n (deed_of e ∷ [])
+plain_noted p b e n from own at by after f o =
+    let w = writer_of p in
+    let deeds = deed_of e ∷ [] in
+    let here = book_at p.shards p.book n at in
+    let more : log_of_book b ≡ get_or w.seen n [] ++ signed 1 deeds =
+    ap log_of_book after
+    ∙ (map-append _ p.book (e ∷ [])
+    ∙ (ap (λ x. log_of_book p.book ++ x) (sym (signed_one e by))
+    ∙ ap (λ x. x ++ signed 1 deeds) (sym here))) in
+    let seen : logs_in p.shards b ≡ appended 1 w.seen n deeds =
+    sym (set_last p.shards (log_of_book p.book) (log_of_book b))
+    ∙ (ap (λ x. set w.seen x (log_of_book b)) (sym at) ∙ ap (set w.seen n) more) in
+    let begun : from ≡ length (get_or w.seen n []) = f ∙ book_long p.shards p.book n at in
+    let build : List Log → List OwnMark → Writer =
+    λ s a. record { me = 1; seen = s; marks = p.marks; own = a; looks = p.looks } in
+    let told : own ≡ p.own ++ record {
+      cell = n;
+      from = length (get_or w.seen n []);
+      count = 1;
+    } ∷ [] =
+    o ∙ ap (λ z. p.own ++ record { cell = n; from = z; count = 1 } ∷ []) begun in
+    ap (λ s. build s own) seen ∙ ap (build (appended 1 w.seen n deeds)) told
+
+-- what was seen of the book is what is kept of it
+pub plain_book : (shards : List Shard) (s p : Plain) → s ≡ p → histories_of shards ≡ s.shards
+    → length shards ≡ cells_in s.names → book_seen (layout_of p) (writer_of p) ≡ s.book
+plain_book shards s p view e counted =
+    let size : length (histories_of shards) ≡ length shards = simp length-map in
+    let same = ap length e in
+    let n : cells_in s.names ≡ length s.shards = omega (arith, size, same, counted) in
+    subst (λ (x : Plain). book_seen (layout_of x) (writer_of x) ≡ s.book) view (seen_book s n)
+
+-- how many cells have logs
+pub logs_long : (hs : List History) (b : Book) → length (logs_in hs b) ≡ length hs + 1
+logs_long [] b = refl
+logs_long (h ∷ hs) b = let e = logs_long hs b in omega (arith, e)
+
+-- a cell that the writer has has a place among the counts of looks
+pub look_place : (p s : Plain) (shards : List Shard) (c n : ℕ) → s ≡ p
+    → histories_of shards ≡ s.shards → n ≡ length shards + 1 → c < length (writer_of p).seen
+    → c < n
+look_place p s shards c n view e counted lt =
+    let here : c < length (writer_of s).seen =
+    subst (λ (x : Plain). c < length (writer_of x).seen) (sym view) lt in
+    let long = logs_long s.shards s.book in
+    let size : length (histories_of shards) ≡ length shards = simp length-map in
+    let same = ap length e in
+    omega (arith, here, long, size, same, counted)
+
+-- how many entries stand in a shard's cell, by the shard
+pub shard_long : (shards : List Shard) (b : Book) (c n : ℕ) (x : Shard) → c < length shards
+    → x ≡ get_or shards c x → n ≡ length x.entries
+    → n ≡ length (get_or (logs_in (histories_of shards) b) c [])
+shard_long shards b c n x lt is e =
+    let long : c < length (histories_of shards) = simp length-map lt in
+    e ∙ cell_long (histories_of shards) b c x.entries long
+    (sym (get_or-map (λ (y : Shard). y.entries) shards c x [] lt
+    ∙ ap (λ (y : Shard). y.entries) (sym is)))

@@ -1,7 +1,6 @@
 -- The step that is taken for a shard.
 use Rattle.std.proofs.Common.{◌≡◌, ◌≢◌, ℕ, ◌+◌, ◌-◌, ◌^◌, ◌<◌, ◌≤◌, List, [], length, get_or, set, sym, ap, ◌∙◌, subst, arith, length-set}
 use Rattle.std.proofs.lemmas.List.{length-map, get_or-set_other}
-use Rattle.shard_versions.specs.Fitness.{AreStorable}
 use Rattle.shard_versions.specs.declared.entry.Entry.{Entry}
 use Rattle.exchange_rules.specs.Rows.{length_below}
 use Rattle.exchange_rules.specs.Steps.{AreBy, kinds_of, writes_in}
@@ -14,7 +13,6 @@ pub record IsTaken (me s : ℕ) (steps : List (List Entry)) (step : List Entry) 
     : Type 0 where
   pub kinds : kinds_of step ≡ share_in steps s
   pub own : AreBy me step
-  pub storable : AreStorable step
   pub writes : writes_in (kinds_of step) ≡ count
   pub next : stand + count ≡ length_below (share_in steps) (s + 1)
   pub fits : stand + count < 2 ^ 64
@@ -42,7 +40,6 @@ taken me now n s steps left step stand count a m lt is rest b e =
     record {
       kinds = kinds;
       own = subst (λ x. AreBy x step) (sym m) (subst (AreBy me) (sym same) (a.own s lt));
-      storable = subst AreStorable (sym same) (a.storable s lt);
       writes = writes;
       next = next;
       fits = omega (arith, next, whole, le, few);

@@ -1,5 +1,5 @@
 -- Answers of calls: what isn't true is false, and an answer is no refusal.
-use Rattle.std.proofs.Common.{◌≡◌, ◌↔◌, Bool, true, false, refl}
+use Rattle.std.proofs.Common.{◌≡◌, ◌↔◌, Bool, true, false, refl, ap}
 use Rattle.std.specs.Prelude.{Result, Ok, Err}
 use Rattle.shard_versions.specs.declared.fault.ShardFault.{ShardFault}
 use Rattle.shard_versions.specs.declared.fault.ShardFault.TheVariants.{ShardFull, OutOfMemory}
@@ -25,3 +25,8 @@ iff_never f g = (λ p. absurd (f p), λ r. absurd (g r))
 pub memory_is_no_full : (A : Type 0) (r : Result A ShardFault) → r ≡ Err OutOfMemory
     → r ≡ Err ShardFull → ⊥
 memory_is_no_full A r e f = cc
+
+-- a refusal of one answer is one of another
+pub err_again : {A B E : Type 0} (e f : E) → ◌≡◌ {A = Result A E} (Err e) (Err f)
+    → ◌≡◌ {A = Result B E} (Err e) (Err f)
+err_again e f h = let same : e ≡ f = cc in ap Err same

@@ -4,7 +4,6 @@ use Rattle.std.specs.Prelude.{Result, Ok, Err}
 use Rattle.std.specs.List.{AllByRecursion}
 use Rattle.tuple_values.specs.Document.{ByteList}
 use Rattle.tuple_values.specs.declared.write.Write.{Write}
-use Rattle.shard_versions.specs.Fitness.{AreStorable, is_storable_kind, is_routed}
 use Rattle.shard_versions.specs.declared.entry.Entry.{Entry}
 use Rattle.shard_versions.specs.declared.entry.Kind.{Kind}
 use Rattle.topic_book.specs.Cells.{cell_of}
@@ -22,28 +21,6 @@ use Rattle.exchange_rules.proofs.StandLemmas.{stands_ok, stands_join, refused_th
 use Rattle.exchange_rules.proofs.StepLemmas.{kinds_of-entries_by, entries_by_are}
 use Rattle.stream_site.specs.Shares.{AreShares, AreCounts, AreSteps, share_in}
 
--- one more kind that can be kept, by a test
-keep_all : (b : Bool) (k : Kind) (ks : List Kind) → is_storable_kind k ≡ true
-    → AllByRecursion (λ x. is_storable_kind x ≡ true) ks
-    → AllByRecursion (λ x. is_storable_kind x ≡ true) (if b then k ∷ ks else ks)
-keep_all true k ks e a = (e, a)
-keep_all false k ks e a = a
-
--- what routes to a shard can be kept
-routed_storable : (n s : ℕ) (ws : List Write) → AreStorableWrites ws
-    → AllByRecursion (λ k. is_storable_kind k ≡ true) (routed n s ws)
-routed_storable n s [] a = tt
-routed_storable n s (w ∷ ws) a =
-    keep_all (is_routed n s (kind_of w)) (kind_of w) (routed n s ws) a.0
-    (routed_storable n s ws a.1)
-
--- entries can be kept where their kinds can
-entries_storable : (me : ℕ) (ks : List Kind)
-    → AllByRecursion (λ k. is_storable_kind k ≡ true) ks → AreStorable (entries_by me ks)
-unfolding AreStorable
-entries_storable me [] a = tt
-entries_storable me (k ∷ ks) a = (a.0, entries_storable me ks a.1)
-
 -- what is to be appended at a shard are the writes that route there
 pub share_same : (me n : ℕ) (ws : List Write) (steps : List (List Entry)) → AreShares me n ws steps
     → (s : ℕ) → s < n → share_in steps s ≡ routed n s ws
@@ -52,9 +29,8 @@ share_same me n ws steps a s lt =
 
 -- the steps of an update can be appended
 pub shares_steps : (me n : ℕ) (ws : List Write) (steps : List (List Entry))
-    → AreShares me n ws steps → AreStorableWrites ws → 0 < n → length ws < 2 ^ 64
-    → AreSteps me n steps
-shares_steps me n ws steps a storable some few =
+    → AreShares me n ws steps → 0 < n → length ws < 2 ^ 64 → AreSteps me n steps
+shares_steps me n ws steps a some few =
     let all = length_below-same (share_in steps) (λ s. routed n s ws) n
     (share_same me n ws steps a) in
     let whole = length_below-routed n ws some in
@@ -62,8 +38,6 @@ shares_steps me n ws steps a storable some few =
       counted = a.counted;
       own = λ s lt. subst (λ (es : List Entry). AllByRecursion (λ e. e.by ≡ me) es)
           (sym (a.shares s lt)) (entries_by_are me (routed n s ws));
-      storable = λ s lt. subst AreStorable (sym (a.shares s lt))
-          (entries_storable me (routed n s ws) (routed_storable n s ws storable));
       writes = λ s lt.
           let e = share_same me n ws steps a s lt in
           ap writes_in e ∙ (writes_in-routed n s ws ∙ sym (ap length e));

@@ -1,3 +1,4 @@
 pub mod Shares
 pub mod Plains
 pub mod Sites
+pub mod Topics

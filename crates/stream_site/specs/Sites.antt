@@ -1,9 +1,12 @@
--- When what a site of one writer keeps is right.
-use Rattle.std.specs.Prelude.{◌^◌, ◌≡◌, ◌<◌, length, map}
+-- When what a site of one writer keeps is right (own).
+use Rattle.std.specs.Prelude.{◌^◌, ◌≡◌, ◌+◌, ◌<◌, length, map}
 use Rattle.std.specs.List.{AllByRecursion}
 use Rattle.shard_versions.specs.Shards.{Shard}
 use Rattle.topic_book.specs.Cells.{cells_in}
+use Rattle.topic_book.specs.Fitness.{IsFitEntry}
+use Rattle.exchange_rules.specs.Cells.{author_of}
 use Rattle.exchange_rules.specs.Steps.{AreBy}
+use Rattle.exchange_rules.specs.declared.log_entry.LogEntry.TheVariants as logged
 use Rattle.stream_site.specs.Plains.{Plain}
 use Rattle.stream_site.specs.declared.plain.PlainSite.TheInside.{Inside}
 
@@ -13,16 +16,20 @@ plain_in s = record {
   names = s.names;
   limit = s.limit;
   shards = map (λ (x : Shard). x.entries) s.shards.items;
+  book = s.book.entries;
   marks = s.marks.items;
   own = s.own.items;
   looks = s.looks.items;
 }
 
--- there is a shard for each cell, with the site's limit and the one writer's entries alone, and a
--- count of looks for each
+-- there is a shard for each cell but the book's, with the site's limit and the one writer's entries
+-- alone; the book's entries are the one writer's, and its topics are on these collections; and there
+-- is a count of looks for each cell
 pub record IsSite (s : Inside) : Type 0 where
   pub counted : length s.shards.items ≡ cells_in s.names
   pub few : cells_in s.names < 2 ^ 32
   pub limits : AllByRecursion (λ (x : Shard). x.limit ≡ s.limit) s.shards.items
   pub own : AllByRecursion (λ (x : Shard). AreBy 1 x.entries) s.shards.items
-  pub looks : length s.looks.items ≡ length s.shards.items
+  pub looks : length s.looks.items ≡ length s.shards.items + 1
+  pub noted : AllByRecursion (λ e. author_of (logged.Book e) ≡ 1) s.book.entries
+  pub topics : AllByRecursion (IsFitEntry s.names) s.book.entries

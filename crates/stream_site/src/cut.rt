@@ -49,6 +49,8 @@ fn look_part_over<T: Turns>(
         (looks cell (λ log. ends (cut ++ part_of collection.now shard (history_in log) ∷ [])))
         result }
     ensures layout { T.layout site.new ≡ T.layout site.old }
+    ensures home { T.home site.new ≡ T.home site.old }
+    ensures later { T.later site.old site.new }
 {
     match site.look(cell) {
         Ok(()) => {}
@@ -75,6 +77,8 @@ fn cut_collection_over<T: Turns>(
         (cut_shards (T.layout site.old).names collection.now 0
         (shards_of (T.layout site.old).names collection.now) cut) result }
     ensures layout { T.layout site.new ≡ T.layout site.old }
+    ensures home { T.home site.new ≡ T.home site.old }
+    ensures later { T.later site.old site.new }
 {
     let mut cut = cut;
     for shard in 0..width(site, collection) {
@@ -88,7 +92,7 @@ fn cut_collection_over<T: Turns>(
 }
 
 /// One look at each shard of the collections, in their order and then by shard.
-pub fn take_cut_over<T: Turns>(
+fn cut_parts_over<T: Turns>(
     site: &mut T,
     alloc: Global,
     collections: &FieldList,
@@ -96,6 +100,8 @@ pub fn take_cut_over<T: Turns>(
     ensures course { Completed (T.writer site.old) (T.writer site.new)
         (cut_course (T.layout site.old).names [] collections.now) result }
     ensures layout { T.layout site.new ≡ T.layout site.old }
+    ensures home { T.home site.new ≡ T.home site.old }
+    ensures later { T.later site.old site.new }
 {
     let mut cut = Cut::new(alloc);
     for collection in collections.as_slice() {
@@ -105,4 +111,51 @@ pub fn take_cut_over<T: Turns>(
         };
     }
     Ok(cut)
+}
+
+/// How many looks a cut of the collections takes.
+fn count_looks<T: Turns>(site: &T, collections: &FieldList) -> usize {
+    let mut looks: usize = 0;
+    for collection in collections.as_slice() {
+        looks = looks.saturating_add(usize::from(width(site, collection)));
+    }
+    looks
+}
+
+/// The same, once there is room for the looks.
+fn cut_ready_over<T: Turns>(
+    site: &mut T,
+    alloc: Global,
+    collections: &FieldList,
+) -> Result<Cut, SiteFault>
+    ensures course { Completed (T.writer site.old) (T.writer site.new)
+        (cut_course (T.layout site.old).names [] collections.now) result }
+    ensures layout { T.layout site.new ≡ T.layout site.old }
+    ensures home { T.home site.new ≡ T.home site.old }
+    ensures later { T.later site.old site.new }
+{
+    let looks = count_looks(site, collections);
+    match site.make_room(looks) {
+        Ok(()) => cut_parts_over(site, alloc, collections),
+        Err(_) => Err(SiteFault::OutOfMemory { stand: 0 }),
+    }
+}
+
+/// One look at each shard of the collections, in their order and then by shard. The writer has no
+/// turn afterwards.
+pub fn take_cut_over<T: Turns>(
+    site: &mut T,
+    alloc: Global,
+    collections: &FieldList,
+) -> Result<Cut, SiteFault>
+    ensures course { Completed (T.writer site.old) (T.writer site.new)
+        (cut_course (T.layout site.old).names [] collections.now) result }
+    ensures free { T.free site.new }
+    ensures layout { T.layout site.new ≡ T.layout site.old }
+    ensures home { T.home site.new ≡ T.home site.old }
+    ensures later { T.later site.old site.new }
+{
+    let result = cut_ready_over(site, alloc, collections);
+    site.leave();
+    result
 }

@@ -1,9 +1,11 @@
 // Updates and commits.
 ghost use Rattle.std.specs.Prelude.{◌≡◌, ◌<◌, ℕ, [], get_or, length};
+ghost use Rattle.topic_book.specs.Cells.{cell_of};
 ghost use Rattle.topic_book.specs.Fitness.{shards_of};
 ghost use Rattle.exchange_rules.specs.Calls.{Answered, Passed};
 ghost use Rattle.exchange_rules.specs.Rows.{commit_course, index_course, length_below, settle_all, writes_course};
 ghost use Rattle.exchange_rules.specs.Steps.{AreStorableWrites};
+ghost use Rattle.site_laws.specs.Duties.{IsFitStep};
 ghost use Rattle.stream_site.specs.Shares.{AreSteps, share_in};
 
 use crate::place::{locate, width};
@@ -36,6 +38,7 @@ fn settle_all_over<T: Turns>(
         (settle_all (T.layout site.old) collection.now (λ shard. get_or counts.now shard 0) stand)
         0 result }
     ensures layout { T.layout site.new ≡ T.layout site.old }
+    ensures home { T.home site.new ≡ T.home site.old }
 {
     for shard in 0..width(site, collection) {
         let writes = count_at(counts, shard);
@@ -56,13 +59,17 @@ fn write_all_over<T: Turns>(
     steps: &mut Vec<Step>,
     commit: bool,
 ) -> Result<(), SiteFault>
-    requires { AreSteps (T.writer site.old).me
+    requires steps { AreSteps (T.writer site.old).me
         (shards_of (T.layout site.old).names collection.now) steps.old.items }
+    requires fit { (shard : ℕ) → shard < shards_of (T.layout site.old).names collection.now
+        → IsFitStep (T.layout site.old).names
+        (cell_of (T.layout site.old).names collection.now shard) (get_or steps.old.items shard []) }
     ensures course { Passed 0 (T.writer site.old) (T.writer site.new)
         (writes_course (T.layout site.old) collection.now (share_in steps.old.items) commit)
         (length_below (share_in steps.old.items)
         (shards_of (T.layout site.old).names collection.now)) result }
     ensures layout { T.layout site.new ≡ T.layout site.old }
+    ensures home { T.home site.new ≡ T.home site.old }
 {
     let mut stand: u64 = 0;
     for shard in 0..width(site, collection) {
@@ -80,7 +87,7 @@ fn write_all_over<T: Turns>(
 
 /// The writes at the collection's shards, and with a commit a Mark on each shard where a write is
 /// pending. The answer is the number of writes.
-pub fn index_over<T: Turns>(
+fn index_steps_over<T: Turns>(
     site: &mut T,
     alloc: Global,
     collection: &Text,
@@ -92,6 +99,7 @@ pub fn index_over<T: Turns>(
     ensures course { Answered (T.writer site.old) (T.writer site.new)
         (index_course (T.layout site.old) collection.now writes commit) result }
     ensures layout { T.layout site.new ≡ T.layout site.old }
+    ensures home { T.home site.new ≡ T.home site.old }
 {
     let total = writes.len() as u64;
     let shards = width(site, collection);
@@ -116,8 +124,30 @@ pub fn index_over<T: Turns>(
     }
 }
 
+/// The same, once there is room for the looks.
+fn index_ready_over<T: Turns>(
+    site: &mut T,
+    alloc: Global,
+    collection: &Text,
+    writes: Writes,
+    commit: bool,
+) -> Result<u64, SiteFault>
+    requires known { 0 < shards_of (T.layout site.old).names collection.now }
+    requires storable { AreStorableWrites writes }
+    ensures course { Answered (T.writer site.old) (T.writer site.new)
+        (index_course (T.layout site.old) collection.now writes commit) result }
+    ensures layout { T.layout site.new ≡ T.layout site.old }
+    ensures home { T.home site.new ≡ T.home site.old }
+{
+    let shards = width(site, collection);
+    match site.make_room(usize::from(shards)) {
+        Ok(()) => index_steps_over(site, alloc, collection, writes, commit),
+        Err(_) => Err(SiteFault::OutOfMemory { stand: 0 }),
+    }
+}
+
 /// A Mark on each shard of the collection where a write is pending.
-pub fn commit_all_over<T: Turns>(
+fn commit_steps_over<T: Turns>(
     site: &mut T,
     alloc: Global,
     collection: &Text,
@@ -125,6 +155,51 @@ pub fn commit_all_over<T: Turns>(
     ensures course { Answered (T.writer site.old) (T.writer site.new)
         (commit_course (T.layout site.old) collection.now) result }
     ensures layout { T.layout site.new ≡ T.layout site.old }
+    ensures home { T.home site.new ≡ T.home site.old }
 {
-    settle_all_over(site, alloc, collection, &[], 0)
+    let shards = width(site, collection);
+    match site.make_room(usize::from(shards)) {
+        Ok(()) => settle_all_over(site, alloc, collection, &[], 0),
+        Err(_) => Err(SiteFault::OutOfMemory { stand: 0 }),
+    }
+}
+
+/// The writes at the collection's shards, and with a commit a Mark on each shard where a write is
+/// pending. The answer is the number of writes. The writer has no turn afterwards.
+pub fn index_over<T: Turns>(
+    site: &mut T,
+    alloc: Global,
+    collection: &Text,
+    writes: Writes,
+    commit: bool,
+) -> Result<u64, SiteFault>
+    requires known { 0 < shards_of (T.layout site.old).names collection.now }
+    requires storable { AreStorableWrites writes }
+    ensures course { Answered (T.writer site.old) (T.writer site.new)
+        (index_course (T.layout site.old) collection.now writes commit) result }
+    ensures free { T.free site.new }
+    ensures layout { T.layout site.new ≡ T.layout site.old }
+    ensures home { T.home site.new ≡ T.home site.old }
+{
+    let result = index_ready_over(site, alloc, collection, writes, commit);
+    site.leave();
+    result
+}
+
+/// A Mark on each shard of the collection where a write is pending. The writer has no turn
+/// afterwards.
+pub fn commit_all_over<T: Turns>(
+    site: &mut T,
+    alloc: Global,
+    collection: &Text,
+) -> Result<(), SiteFault>
+    ensures course { Answered (T.writer site.old) (T.writer site.new)
+        (commit_course (T.layout site.old) collection.now) result }
+    ensures free { T.free site.new }
+    ensures layout { T.layout site.new ≡ T.layout site.old }
+    ensures home { T.home site.new ≡ T.home site.old }
+{
+    let result = commit_steps_over(site, alloc, collection);
+    site.leave();
+    result
 }

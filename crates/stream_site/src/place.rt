@@ -1,7 +1,8 @@
 // Where a collection's cells are.
-ghost use Rattle.std.specs.Prelude.{◌≡◌, ◌<◌, ◌^◌};
+ghost use Rattle.std.specs.Prelude.{◌≡◌, ◌<◌, ◌^◌, length};
 ghost use Rattle.topic_book.specs.Cells.{cells_in, cell_of};
 ghost use Rattle.topic_book.specs.Fitness.{shards_of};
+ghost use Rattle.exchange_rules.specs.Bindings.{book_cell};
 ghost use Rattle.exchange_rules.specs.Rows.{HasCell};
 
 use crate::Turns;
@@ -49,4 +50,24 @@ pub(crate) fn locate<T: Turns>(site: &T, collection: &Text, shard: u16) -> u32
 {
     let first = first_cell(site.names(), collection.as_str());
     first + u32::from(shard)
+}
+
+/// How many cells the collections' shards have.
+fn count_cells(names: &Names) -> u32
+    requires { cells_in names.now < 2 ^ 32 }
+    ensures { result ≡ cells_in names.now }
+{
+    let mut cells: u32 = 0;
+    for entry in names.as_slice() {
+        cells += u32::from(entry.shards);
+    }
+    cells
+}
+
+/// The cell of the book, as a writer of the site finds it.
+pub(crate) fn find_book<T: Turns>(site: &T) -> u32
+    ensures cell { result ≡ book_cell (T.layout site.now).names }
+    ensures here { result < length (T.writer site.now).seen }
+{
+    count_cells(site.names())
 }

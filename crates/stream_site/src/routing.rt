@@ -1,13 +1,15 @@
-// The writes of an update, shard by shard.
+// The writes of an update and the items of a delivery, shard by shard.
 ghost use Rattle.std.specs.Prelude.{◌≡◌, ◌<◌, ◌++◌, ◌∷◌, [], IfOk, OnOk, replicate, set, get_or, length, map, vec_len};
 ghost use Rattle.tuple_values.specs.Keys.{shard_of};
+ghost use Rattle.exchange_rules.specs.Deliveries.{sent_kinds};
 ghost use Rattle.exchange_rules.specs.Steps.{kind_of, written_id};
-ghost use Rattle.stream_site.specs.Shares.{AreShares};
+ghost use Rattle.stream_site.specs.Shares.{AreRouted, AreShares};
 
+use exchange_rules::Batch;
 use shard_versions::{Entry, Step, id_of};
 use std::alloc::Global;
 use std::mem::replace;
-use tuple_values::{Memory, Write, Writes, shard_of};
+use tuple_values::{Memory, Text, TryCopy, Write, Writes, shard_of};
 
 /// The write as an entry under this number.
 fn entry_of(writer: u64, write: Write) -> Entry
@@ -44,6 +46,27 @@ pub(crate) fn route(
     for write in writes.into_vec() {
         let shard = home_of(&write, shards);
         add(&mut steps, shard, entry_of(writer, write))?;
+    }
+    Ok(steps)
+}
+
+/// The items as deliveries from this source under this number, a step for each of so many shards.
+pub(crate) fn route_batch(
+    alloc: Global,
+    writer: u64,
+    shards: u16,
+    src: &Text,
+    batch: Batch,
+) -> Result<Vec<Step>, Memory>
+    requires { 0 < shards }
+    ensures { IfOk result (λ steps. AreRouted writer shards (sent_kinds src.now batch) steps.items) }
+{
+    let mut steps = empty_steps(alloc, shards)?;
+    for item in batch.into_vec() {
+        let shard = shard_of(id_of(&item.document), shards);
+        let src = src.copy(alloc)?;
+        let entry = Entry::sent(writer, src, item.version, item.document);
+        add(&mut steps, shard, entry)?;
     }
     Ok(steps)
 }

@@ -1,11 +1,13 @@
 // One step at a shard.
-ghost use Rattle.std.specs.Prelude.{◌≡◌, ◌++◌, ◌∷◌, [], IfOk, get_or, if◌then◌else◌};
+ghost use Rattle.std.specs.Prelude.{◌≡◌, ◌<◌, ◌≤◌, ◌++◌, ◌∷◌, [], List, IfOk, get_or, length, if◌then◌else◌};
 ghost use Rattle.shard_versions.specs.Deliveries.{mark_by};
-ghost use Rattle.shard_versions.specs.Fitness.{AreStorable};
-ghost use Rattle.exchange_rules.specs.Calls.{Passed, Tells};
-ghost use Rattle.exchange_rules.specs.Cells.{history_in};
+ghost use Rattle.exchange_rules.specs.Calls.{Passed, PassedSent, Tells};
+ghost use Rattle.exchange_rules.specs.Cells.{Log, history_in};
+ghost use Rattle.exchange_rules.specs.Deliveries.{admitted_kinds, send_admitted, send_step};
+ghost use Rattle.exchange_rules.specs.Following.{Grows};
 ghost use Rattle.exchange_rules.specs.Rows.{HasCell};
 ghost use Rattle.exchange_rules.specs.Steps.{AreBy, closed, fitting, kinds_of, settle_course, settle_unless, settling, step_course, write_course, writes_in};
+ghost use Rattle.site_laws.specs.Duties.{IsFitStep, MayDeliver, MayWrite};
 
 use crate::{SiteFault, Turns};
 use shard_versions::{Entry, ShardFault, Step};
@@ -37,14 +39,16 @@ fn append_over<T: Turns>(
     stand: u64,
 ) -> Result<(), SiteFault>
     requires in_range { HasCell (T.layout site.old) (T.writer site.old) cell }
-    requires own { AreBy (T.writer site.old).me step }
-    requires storable { AreStorable step }
+    requires holds { T.holds site.old cell }
+    requires allowed { MayWrite (T.layout site.old).names (T.writer site.old).me
+        (T.writer site.old).seen cell step }
     ensures course { Passed stand (T.writer site.old) (T.writer site.new)
         (fitting (T.layout site.old).limit cell (kinds_of step)
         (SiteFault.ShardFull collection.now shard stand)
         (history_in (get_or (T.writer site.old).seen cell [])))
         (writes_in (kinds_of step)) result }
     ensures layout { T.layout site.new ≡ T.layout site.old }
+    ensures home { T.home site.new ≡ T.home site.old }
 {
     match site.seal(cell, step) {
         Ok(()) => Ok(()),
@@ -65,12 +69,14 @@ fn step_over<T: Turns>(
 ) -> Result<(), SiteFault>
     requires in_range { HasCell (T.layout site.old) (T.writer site.old) cell }
     requires own { AreBy (T.writer site.old).me step }
-    requires storable { AreStorable step }
+    requires filled { 0 < length step }
+    requires fit { IsFitStep (T.layout site.old).names cell step }
     ensures course { Passed stand (T.writer site.old) (T.writer site.new)
         (step_course (T.layout site.old).limit cell (kinds_of step)
         (SiteFault.ShardFull collection.now shard stand))
         (writes_in (kinds_of step)) result }
     ensures layout { T.layout site.new ≡ T.layout site.old }
+    ensures home { T.home site.new ≡ T.home site.old }
 {
     match site.look(cell) {
         Ok(()) => append_over(site, alloc, collection, shard, cell, step, stand),
@@ -79,7 +85,7 @@ fn step_over<T: Turns>(
 }
 
 /// The writer's step with a Mark behind it, where there is a commit.
-fn close(mut step: Step, writer: u64, commit: bool) -> Result<Step, Memory>
+pub(crate) fn close(mut step: Step, writer: u64, commit: bool) -> Result<Step, Memory>
     ensures { IfOk result (λ s. s ≡ (if commit then step ++ mark_by writer ∷ [] else step)) }
 {
     if commit {
@@ -101,12 +107,13 @@ pub(crate) fn write_over<T: Turns>(
 ) -> Result<(), SiteFault>
     requires in_range { HasCell (T.layout site.old) (T.writer site.old) cell }
     requires own { AreBy (T.writer site.old).me step }
-    requires storable { AreStorable step }
+    requires fit { IsFitStep (T.layout site.old).names cell step }
     ensures course { Passed stand (T.writer site.old) (T.writer site.new)
         (write_course (T.layout site.old).limit cell (closed commit (kinds_of step))
         (SiteFault.ShardFull collection.now shard stand))
         (writes_in (kinds_of step)) result }
     ensures layout { T.layout site.new ≡ T.layout site.old }
+    ensures home { T.home site.new ≡ T.home site.old }
 {
     if step.len() == 0 {
         return Ok(());
@@ -135,11 +142,13 @@ fn settle_seen_over<T: Turns>(
     cell: u32,
     stand: u64,
 ) -> Result<(), SiteFault>
-    requires { HasCell (T.layout site.old) (T.writer site.old) cell }
+    requires in_range { HasCell (T.layout site.old) (T.writer site.old) cell }
+    requires holds { T.holds site.old cell }
     ensures course { Passed stand (T.writer site.old) (T.writer site.new)
         (settling (T.layout site.old).limit cell (SiteFault.ShardFull collection.now shard stand)
         (history_in (get_or (T.writer site.old).seen cell []))) 0 result }
     ensures layout { T.layout site.new ≡ T.layout site.old }
+    ensures home { T.home site.new ≡ T.home site.old }
 {
     if !site.is_pending(cell) {
         return Ok(());
@@ -164,6 +173,7 @@ fn settle_over<T: Turns>(
         (settle_course (T.layout site.old).limit cell
         (SiteFault.ShardFull collection.now shard stand)) 0 result }
     ensures layout { T.layout site.new ≡ T.layout site.old }
+    ensures home { T.home site.new ≡ T.home site.old }
 {
     match site.look(cell) {
         Ok(()) => settle_seen_over(site, alloc, collection, shard, cell, stand),
@@ -186,9 +196,70 @@ pub(crate) fn settle_shard_over<T: Turns>(
         (settle_unless (T.layout site.old).limit cell writes
         (SiteFault.ShardFull collection.now shard stand)) 0 result }
     ensures layout { T.layout site.new ≡ T.layout site.old }
+    ensures home { T.home site.new ≡ T.home site.old }
 {
     if writes > 0 {
         return Ok(());
     }
     settle_over(site, alloc, collection, shard, cell, stand)
+}
+
+/// What of the step is admitted at one look, and a Mark; nothing where the step has no entry. The
+/// answer is how many entries were admitted.
+pub(crate) fn deliver_over<T: Turns>(
+    site: &mut T,
+    alloc: Global,
+    dest: &Text,
+    shard: u16,
+    cell: u32,
+    step: Step,
+    stand: u64,
+) -> Result<u64, SiteFault>
+    requires in_range { HasCell (T.layout site.old) (T.writer site.old) cell }
+    requires allowed { 0 < length step → (seen : List Log) → Grows (T.writer site.old).seen seen
+        → MayDeliver (T.layout site.old).names (T.writer site.old).me seen cell step }
+    ensures course { PassedSent stand (T.writer site.old) (T.writer site.new)
+        (send_step (T.layout site.old).limit cell (SiteFault.ShardFull dest.now shard stand)
+        (kinds_of step)) result }
+    ensures few { IfOk result (λ n. n ≤ length step) }
+    ensures layout { T.layout site.new ≡ T.layout site.old }
+    ensures home { T.home site.new ≡ T.home site.old }
+{
+    if step.len() == 0 {
+        return Ok(0);
+    }
+    match site.look(cell) {
+        Ok(()) => deliver_seen_over(site, alloc, dest, shard, cell, step, stand),
+        Err(_) => Err(SiteFault::OutOfMemory { stand }),
+    }
+}
+
+/// The same by what was just seen of the cell.
+fn deliver_seen_over<T: Turns>(
+    site: &mut T,
+    alloc: Global,
+    dest: &Text,
+    shard: u16,
+    cell: u32,
+    step: Step,
+    stand: u64,
+) -> Result<u64, SiteFault>
+    requires in_range { HasCell (T.layout site.old) (T.writer site.old) cell }
+    requires holds { T.holds site.old cell }
+    requires allowed { MayDeliver (T.layout site.old).names (T.writer site.old).me
+        (T.writer site.old).seen cell step }
+    ensures course { PassedSent stand (T.writer site.old) (T.writer site.new)
+        (send_admitted (T.layout site.old).limit cell (SiteFault.ShardFull dest.now shard stand)
+        (history_in (get_or (T.writer site.old).seen cell []))
+        (admitted_kinds (history_in (get_or (T.writer site.old).seen cell [])) (kinds_of step)))
+        result }
+    ensures few { IfOk result (λ n. n ≤ length step) }
+    ensures layout { T.layout site.new ≡ T.layout site.old }
+    ensures home { T.home site.new ≡ T.home site.old }
+{
+    match site.deliver(cell, step) {
+        Ok(admitted) => Ok(admitted),
+        Err(ShardFault::ShardFull) => Err(full_at(alloc, dest, shard, stand)),
+        Err(ShardFault::OutOfMemory) => Err(SiteFault::OutOfMemory { stand }),
+    }
 }

@@ -1,25 +1,47 @@
-// The two things that a writer does at a cell, and what it can know of one.
+// What a writer does at a cell, and what it can know of one.
 use shard_versions::{Record, ShardFault, Snapshot, Step};
 use std::alloc::Global;
-use tuple_values::{Memory, Names};
+use topic_book::{Binding, BookEntry, BookFault, TopicKey};
+use tuple_values::{Memory, Names, Versions};
 
-/// A writer of a site. What a call does is written over a look and a seal alone.
+/// A writer of a site. What a call does is written over looks, and over what is appended where the
+/// writer has looked.
 pub trait Turns {
-    ghost use Rattle.std.specs.Prelude.{ℕ, ◌≡◌, ◌+◌, ◌<◌, ◌^◌, ◌↔◌, [], true, length, map, get_or, IfOk, OnOk, OnErr, IsErrOf};
-    ghost use Rattle.shard_versions.specs.Fitness.{AreStorable};
+    ghost use Rattle.std.specs.Prelude.{ℕ, ◌≡◌, ◌+◌, ◌<◌, ◌^◌, ◌↔◌, [], ◌∷◌, false, true, length, map, get_or, option_copied, IfErr, IfOk, OnOk, OnErr, IsErrOf};
     ghost use Rattle.shard_versions.specs.Histories.{is_pending};
+    ghost use Rattle.topic_book.specs.Books.{binding_of, checkpoints, raises};
     ghost use Rattle.topic_book.specs.Cells.{cells_in};
-    ghost use Rattle.exchange_rules.specs.Cells.{history_in, write};
+    ghost use Rattle.topic_book.specs.States.{IsCauseOf, IsOpenTo};
+    ghost use Rattle.once_core.specs.Allowed.{MayStore};
+    ghost use Rattle.exchange_rules.specs.Bindings.{book_cell, book_seen};
+    ghost use Rattle.exchange_rules.specs.Cells.{deed_of, history_in, write};
+    ghost use Rattle.exchange_rules.specs.Deliveries.{admitted_kinds};
     ghost use Rattle.exchange_rules.specs.Following.{Writer, cleared};
-    ghost use Rattle.exchange_rules.specs.Primitives.{LooksAt, made};
+    ghost use Rattle.exchange_rules.specs.Primitives.{LooksAt, delivered, made};
     ghost use Rattle.exchange_rules.specs.Rows.{Layout, HasCell, shown_of};
-    ghost use Rattle.exchange_rules.specs.Steps.{is_full, kinds_of, AreBy};
+    ghost use Rattle.exchange_rules.specs.Steps.{is_full, is_over, kinds_of};
+    ghost use Rattle.site_laws.specs.Duties.{MayDeliver, MayNote, MayWrite};
+    ghost use Rattle.site_laws.specs.SiteCells.{histories_in};
+
+    /// Where the writer is: it stays there.
+    type Home;
+
+    ghost home: { Self → Self.Home };
 
     /// What the writer has seen, and its record.
     ghost writer: { Self → Writer };
 
     /// The collections, and the limit on each shard.
     ghost layout: { Self → Layout };
+
+    /// The writer has this cell's turn: what it has seen of the cell is all that there is.
+    ghost holds: { Self → ℕ → Type 0 };
+
+    /// It has no turn.
+    ghost free: { Self → Type 0 };
+
+    /// What stays from one moment of the writer to a later one.
+    ghost later: { Self → Self → Type 0 };
 
     /// The collections. There is a cell for each of their shards, and the book's.
     fn names(&self) -> &Names
@@ -31,36 +53,122 @@ pub trait Turns {
     fn number(&self) -> u64
         ensures { result ≡ (writer self.now).me };
 
-    /// Looks at the cell. Entries of others may have come since it was seen.
+    /// Makes room in the record for so many looks, so that none of them wants memory while the
+    /// writer has a turn. A writer that has a turn gives it back first.
+    fn make_room(&mut self, looks: usize) -> Result<(), Memory>
+        ensures writer { writer self.new ≡ writer self.old }
+        ensures layout { layout self.new ≡ layout self.old }
+        ensures home { home self.new ≡ home self.old }
+        ensures later { later self.old self.new };
+
+    /// Gives back the turn that the writer has, if any, takes the cell's and looks. Entries of
+    /// others may have come since it was seen.
     fn look(&mut self, cell: u32) -> Result<(), Memory>
-        requires { HasCell (layout self.old) (writer self.old) cell }
+        requires { cell < length (writer self.old).seen }
         ensures ok { OnOk result (LooksAt (writer self.old) (writer self.new) cell) }
+        ensures holds { OnOk result (holds self.new cell) }
         ensures err { OnErr result (writer self.new ≡ writer self.old) }
-        ensures layout { layout self.new ≡ layout self.old };
+        ensures layout { layout self.new ≡ layout self.old }
+        ensures home { home self.new ≡ home self.old }
+        ensures later { later self.old self.new };
+
+    /// Gives back the turn that the writer has, if any.
+    fn leave(&mut self)
+        ensures writer { writer self.new ≡ writer self.old }
+        ensures free { free self.new }
+        ensures layout { layout self.new ≡ layout self.old }
+        ensures home { home self.new ≡ home self.old }
+        ensures later { later self.old self.new };
 
     /// Whether a write is pending in what was seen of the cell.
     fn is_pending(&self, cell: u32) -> bool
-        requires { HasCell (layout self.now) (writer self.now) cell }
+        requires cell { HasCell (layout self.now) (writer self.now) cell }
+        requires holds { holds self.now cell }
         ensures { result ≡ is_pending (history_in (get_or (writer self.now).seen cell [])) };
 
     /// What was seen of the cell, as a shard is read.
     fn snapshot(&self, alloc: Global, cell: u32) -> Result<Snapshot, Memory>
-        requires { HasCell (layout self.now) (writer self.now) cell }
+        requires cell { HasCell (layout self.now) (writer self.now) cell }
+        requires holds { holds self.now cell }
         ensures { IfOk result
             (λ s. s ≡ shown_of (history_in (get_or (writer self.now).seen cell []))) };
 
     /// Appends the writer's step right behind what it has seen of the cell.
     fn seal(&mut self, cell: u32, step: Step) -> Result<(), ShardFault>
         requires in_range { HasCell (layout self.old) (writer self.old) cell }
-        requires own { AreBy (writer self.old).me step }
-        requires storable { AreStorable step }
+        requires holds { holds self.old cell }
+        requires allowed { MayWrite (layout self.old).names (writer self.old).me
+            (writer self.old).seen cell step }
         ensures ok { OnOk result
             (writer self.new ≡ made (writer self.old) cell (map write (kinds_of step))) }
         ensures err { OnErr result (writer self.new ≡ writer self.old) }
         ensures shard_full { IsErrOf result ShardFault.ShardFull
             ↔ (is_full (layout self.old).limit (history_in (get_or (writer self.old).seen cell []))
             (kinds_of step) ≡ true) }
-        ensures layout { layout self.new ≡ layout self.old };
+        ensures holds { holds self.new cell }
+        ensures layout { layout self.new ≡ layout self.old }
+        ensures home { home self.new ≡ home self.old };
+
+    /// Appends those entries of a step of deliveries that what was seen of the cell admits, and a
+    /// Mark behind them; nothing where none is admitted. The answer is how many are.
+    fn deliver(&mut self, cell: u32, step: Step) -> Result<u64, ShardFault>
+        requires in_range { HasCell (layout self.old) (writer self.old) cell }
+        requires holds { holds self.old cell }
+        requires allowed { MayDeliver (layout self.old).names (writer self.old).me
+            (writer self.old).seen cell step }
+        ensures ok { OnOk result (writer self.new ≡ delivered (writer self.old) cell
+            (admitted_kinds (history_in (get_or (writer self.old).seen cell [])) (kinds_of step))) }
+        ensures count { IfOk result (λ n. n ≡ length
+            (admitted_kinds (history_in (get_or (writer self.old).seen cell [])) (kinds_of step))) }
+        ensures fits { OnOk result (is_over (layout self.old).limit
+            (history_in (get_or (writer self.old).seen cell []))
+            (admitted_kinds (history_in (get_or (writer self.old).seen cell [])) (kinds_of step))
+            ≡ false) }
+        ensures err { OnErr result (writer self.new ≡ writer self.old) }
+        ensures shard_full { IsErrOf result ShardFault.ShardFull
+            → is_over (layout self.old).limit (history_in (get_or (writer self.old).seen cell []))
+            (admitted_kinds (history_in (get_or (writer self.old).seen cell [])) (kinds_of step))
+            ≡ true }
+        ensures holds { holds self.new cell }
+        ensures layout { layout self.new ≡ layout self.old }
+        ensures home { home self.new ≡ home self.old };
+
+    /// What the topic is bound to in what was seen of the book; none exactly where it isn't bound.
+    fn bound(&self, key: &TopicKey) -> Option<&Binding>
+        requires { holds self.now (book_cell (layout self.now).names) }
+        ensures { option_copied result
+            ≡ binding_of key.now (book_seen (layout self.now) (writer self.now)) };
+
+    /// Up to where the topic was delivered, in what was seen of the book; none exactly where it
+    /// isn't bound.
+    fn checkpoint(&self, key: &TopicKey) -> Option<&Versions>
+        requires { holds self.now (book_cell (layout self.now).names) }
+        ensures { option_copied result
+            ≡ checkpoints key.now (book_seen (layout self.now) (writer self.now)) };
+
+    /// Whether versions that may be stored raise the topic's checkpoint somewhere, in what was seen
+    /// of the book.
+    fn raises(&self, key: &TopicKey, upto: &Versions) -> bool
+        requires holds { holds self.now (book_cell (layout self.now).names) }
+        requires delivered { MayStore (layout self.now).names
+            (histories_in (layout self.now).names (writer self.now).seen) key.now upto.now }
+        ensures { result
+            ≡ raises key.now (book_seen (layout self.now) (writer self.now)) upto.now };
+
+    /// Adds the writer's entry right behind what it has seen of the book.
+    fn note(&mut self, entry: BookEntry) -> Result<(), BookFault>
+        requires holds { holds self.old (book_cell (layout self.old).names) }
+        requires allowed { MayNote (layout self.old).names (writer self.old).me
+            (writer self.old).seen entry }
+        ensures ok { OnOk result (writer self.new
+            ≡ made (writer self.old) (book_cell (layout self.old).names) (deed_of entry ∷ [])) }
+        ensures opened { OnOk result (IsOpenTo (book_seen (layout self.old) (writer self.old)) entry) }
+        ensures err { OnErr result (writer self.new ≡ writer self.old) }
+        ensures cause { IfErr result
+            (λ fault. IsCauseOf (book_seen (layout self.old) (writer self.old)) entry fault) }
+        ensures holds { holds self.new (book_cell (layout self.old).names) }
+        ensures layout { layout self.new ≡ layout self.old }
+        ensures home { home self.new ≡ home self.old };
 
     /// The looks and steps since the last such call, those of refused calls too. The record begins
     /// anew.
@@ -68,5 +176,10 @@ pub trait Turns {
         ensures marks { result.marks ≡ (writer self.old).marks }
         ensures own { result.own ≡ (writer self.old).own }
         ensures rest { writer self.new ≡ cleared (writer self.old) }
-        ensures layout { layout self.new ≡ layout self.old };
+        ensures layout { layout self.new ≡ layout self.old }
+        ensures home { home self.new ≡ home self.old };
+
+    ghost later_self: { (a : Self) → later a a };
+
+    ghost later_on: { (a b c : Self) → later a b → later b c → later a c };
 }

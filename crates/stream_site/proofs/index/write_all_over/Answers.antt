@@ -9,6 +9,7 @@ use Rattle.exchange_rules.proofs.ShardLemmas.{each_stands, each_end, all_left}
 use Rattle.exchange_rules.proofs.StandLemmas.{stands_none}
 use Rattle.stream_site.specs.Shares.{share_in}
 use Rattle.stream_site.proofs.IndexLemmas.{write_here, write_refused, here_below}
+use Rattle.stream_site.proofs.MayLemmas.{fit_here}
 use Rattle.stream_site.proofs.TakenLemmas.{taken, rest_after, long_after}
 use Rattle.stream_site.proofs.index.write_all_over.Goals as goal
 
@@ -20,6 +21,7 @@ loop-shard-init g c =
     let n = shards_of l.names c.args.collection.now in
     record {
       same = refl;
+      home = refl;
       long = refl;
       rest = λ s le. refl;
       counted = refl;
@@ -30,7 +32,7 @@ loop-shard-init g c =
 pub take_step-step-requires : goal.take_step-step-requires
 take_step-step-requires g c =
     let n = c.width-shard-end.ensures in
-    omega (arith, c.loop-shard.invariant.long, c.requires.counted, n, c.loop-shard-test.true)
+    omega (arith, c.loop-shard.invariant.long, c.requires.steps.counted, n, c.loop-shard-test.true)
 
 pub locate-cell-requires : goal.locate-cell-requires
 locate-cell-requires g c =
@@ -39,22 +41,15 @@ locate-cell-requires g c =
 
 pub write_over-requires-clause-own : goal.write_over-requires-clause-own
 write_over-requires-clause-own g c =
-    (taken _ _ _ _ _ _ _ _ _ c.requires c.loop-shard.invariant.reached.reached.same
+    (taken _ _ _ _ _ _ _ _ _ c.requires.steps c.loop-shard.invariant.reached.reached.same
     (subst (λ n. c.loop-shard.shard < n) c.width-shard-end.ensures c.loop-shard-test.true)
     c.take_step-step.ensures.step c.loop-shard.invariant.rest c.loop-shard.invariant.counted
     c.len-count.ensures).own
 
-pub write_over-requires-clause-storable : goal.write_over-requires-clause-storable
-write_over-requires-clause-storable g c =
-    (taken _ _ _ _ _ _ _ _ _ c.requires c.loop-shard.invariant.reached.reached.same
-    (subst (λ n. c.loop-shard.shard < n) c.width-shard-end.ensures c.loop-shard-test.true)
-    c.take_step-step.ensures.step c.loop-shard.invariant.rest c.loop-shard.invariant.counted
-    c.len-count.ensures).storable
-
 pub returns-in-Err-clause-course : goal.returns-in-Err-clause-course
 returns-in-Err-clause-course g c =
     let lt = subst (λ n. c.loop-shard.shard < n) c.width-shard-end.ensures c.loop-shard-test.true in
-    let t = taken _ _ _ _ _ _ _ _ _ c.requires c.loop-shard.invariant.reached.reached.same lt
+    let t = taken _ _ _ _ _ _ _ _ _ c.requires.steps c.loop-shard.invariant.reached.reached.same lt
     c.take_step-step.ensures.step c.loop-shard.invariant.rest c.loop-shard.invariant.counted
     c.len-count.ensures in
     write_refused _ _ _ _ c.args.collection.now _ _ _ _ _ _ lt c.loop-shard.invariant.reached
@@ -70,7 +65,7 @@ returns-in-Err-clause-layout g c = c.in-Err.ensures.layout ∙ c.loop-shard.inva
 pub overflow_add-stand : goal.overflow_add-stand
 overflow_add-stand g c =
     let lt = subst (λ n. c.loop-shard.shard < n) c.width-shard-end.ensures c.loop-shard-test.true in
-    let t = taken _ _ _ _ _ _ _ _ _ c.requires c.loop-shard.invariant.reached.reached.same lt
+    let t = taken _ _ _ _ _ _ _ _ _ c.requires.steps c.loop-shard.invariant.reached.reached.same lt
     c.take_step-step.ensures.step c.loop-shard.invariant.rest c.loop-shard.invariant.counted
     c.len-count.ensures in
     let fits = t.fits in
@@ -82,7 +77,7 @@ loop-shard-preserved g c =
     let at = write_at l c.args.collection.now (share_in c.args.steps.now.items) c.args.commit in
     let n = shards_of l.names c.args.collection.now in
     let lt = subst (λ n. c.loop-shard.shard < n) c.width-shard-end.ensures c.loop-shard-test.true in
-    let t = taken _ _ _ _ _ _ _ _ _ c.requires c.loop-shard.invariant.reached.reached.same lt
+    let t = taken _ _ _ _ _ _ _ _ _ c.requires.steps c.loop-shard.invariant.reached.reached.same lt
     c.take_step-step.ensures.step c.loop-shard.invariant.rest c.loop-shard.invariant.counted
     c.len-count.ensures in
     let done = write_here 0 (g.T.Turns.writer c.loop-shard.site)
@@ -91,6 +86,7 @@ loop-shard-preserved g c =
     c.locate-cell.ensures.cell t.kinds c.loop-shard.invariant.counted c.in-Ok.ensures.course in
     record {
       same = c.in-Ok.ensures.layout ∙ c.loop-shard.invariant.same;
+      home = c.in-Ok.ensures.home ∙ c.loop-shard.invariant.home;
       long = long_after _ _ _ _ c.loop-shard.invariant.long c.take_step-step.ensures.rest;
       rest = rest_after _ _ _ _ c.loop-shard.invariant.rest c.take_step-step.ensures.rest;
       counted = t.next;
@@ -120,3 +116,16 @@ returns-clause-course g c =
 
 pub returns-clause-layout : goal.returns-clause-layout
 returns-clause-layout g c = c.loop-shard.invariant.same
+
+pub returns-in-Err-clause-home : goal.returns-in-Err-clause-home
+returns-in-Err-clause-home g c = c.in-Err.ensures.home ∙ c.loop-shard.invariant.home
+
+pub returns-clause-home : goal.returns-clause-home
+returns-clause-home g c = c.loop-shard.invariant.home
+
+pub write_over-requires-clause-fit : goal.write_over-requires-clause-fit
+write_over-requires-clause-fit g c =
+    let lt = subst (λ n. c.loop-shard.shard < n) c.width-shard-end.ensures c.loop-shard-test.true in
+    fit_here _ _ c.args.collection.now _ _ _ _ c.loop-shard.invariant.same c.locate-cell.ensures.cell
+    (c.take_step-step.ensures.step ∙ c.loop-shard.invariant.rest c.loop-shard.shard (omega arith))
+    (c.requires.fit c.loop-shard.shard lt)

@@ -1,12 +1,12 @@
-use Rattle.std.proofs.Common.{◌<◌, sym, subst, arith}
+use Rattle.std.proofs.Common.{◌<◌, [], sym, subst, arith}
 use Rattle.stream_site.specs.Shares.{AreShares}
-use Rattle.stream_site.proofs.ShareLemmas.{shares_push, shares_none}
+use Rattle.stream_site.proofs.ShareLemmas.{shares_push, routed_none}
 use Rattle.stream_site.proofs.routing.route.Goals as goal
 
 pub loop-write-init : goal.loop-write-init
 loop-write-init c =
-    subst (AreShares c.args.writer c.args.shards _) (sym c.in_ok-steps.ensures)
-    (shares_none c.args.writer c.args.shards)
+    subst (AreShares c.args.writer c.args.shards []) (sym c.in_ok-steps.ensures)
+    (routed_none c.args.writer c.args.shards)
 
 pub loop-write-preserved : goal.loop-write-preserved
 loop-write-preserved c =

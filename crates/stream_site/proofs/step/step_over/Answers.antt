@@ -5,6 +5,7 @@ use Rattle.exchange_rules.specs.Rows.{Layout}
 use Rattle.exchange_rules.specs.Steps.{fitting, kinds_of, writes_in}
 use Rattle.exchange_rules.specs.declared.fault.SiteFault.TheVariants.{ShardFull}
 use Rattle.exchange_rules.proofs.StepLemmas.{look_passed, nothing_done}
+use Rattle.stream_site.proofs.MayLemmas.{may_after}
 use Rattle.stream_site.proofs.step.step_over.Goals as goal
 
 pub returns-in-Ok-clause-course : goal.returns-in-Ok-clause-course
@@ -24,3 +25,10 @@ pub returns-in-Err-clause-course : goal.returns-in-Err-clause-course
 returns-in-Err-clause-course g c =
     nothing_done c.args.stand (g.T.Turns.writer c.args.site.now)
     (g.T.Turns.writer c.look.new.self) _ c.in-Err.ensures.err
+
+pub append_over-requires-clause-allowed : goal.append_over-requires-clause-allowed
+append_over-requires-clause-allowed g c =
+    may_after (g.T.Turns.layout c.args.site.now) (g.T.Turns.layout c.look.new.self)
+    (g.T.Turns.writer c.args.site.now) (g.T.Turns.writer c.look.new.self) c.args.cell c.args.step
+    c.in-Ok.ensures.layout c.requires.in_range c.in-Ok.ensures.ok c.requires.filled c.requires.own
+    c.requires.fit

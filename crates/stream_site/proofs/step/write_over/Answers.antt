@@ -2,6 +2,7 @@ use Rattle.std.proofs.Common.{◌<◌, length, refl, arith}
 use Rattle.exchange_rules.specs.declared.fault.SiteFault.TheVariants.{ShardFull}
 use Rattle.exchange_rules.proofs.StepLemmas.{nothing_done}
 use Rattle.stream_site.proofs.CloseLemmas.{is_closed, nothing_written, write_passed}
+use Rattle.stream_site.proofs.MayLemmas.{filled_closed, fit_closed}
 use Rattle.stream_site.proofs.step.write_over.Goals as goal
 
 pub returns-then-len-eq0-clause-course : goal.returns-then-len-eq0-clause-course
@@ -15,13 +16,7 @@ pub step_over-requires-clause-own : goal.step_over-requires-clause-own
 step_over-requires-clause-own g c =
     let lt : 0 < length c.args.step = omega (arith, c.len.ensures) in
     (is_closed (g.T.Turns.writer c.args.site.now).me c.number.result c.args.commit c.args.step
-    c.in-Ok.step lt c.requires.own c.requires.storable c.number.ensures c.in-Ok.ensures).own
-
-pub step_over-requires-clause-storable : goal.step_over-requires-clause-storable
-step_over-requires-clause-storable g c =
-    let lt : 0 < length c.args.step = omega (arith, c.len.ensures) in
-    (is_closed (g.T.Turns.writer c.args.site.now).me c.number.result c.args.commit c.args.step
-    c.in-Ok.step lt c.requires.own c.requires.storable c.number.ensures c.in-Ok.ensures).storable
+    c.in-Ok.step lt c.requires.own c.number.ensures c.in-Ok.ensures).own
 
 pub returns-in-Ok-clause-course : goal.returns-in-Ok-clause-course
 returns-in-Ok-clause-course g c =
@@ -32,10 +27,20 @@ returns-in-Ok-clause-course g c =
     me c.args.commit c.args.step c.in-Ok.step
     (ShardFull c.args.collection.now c.args.shard c.args.stand) c.step_over.result lt
     (is_closed me c.number.result c.args.commit c.args.step c.in-Ok.step lt c.requires.own
-    c.requires.storable c.number.ensures c.in-Ok.ensures)
+    c.number.ensures c.in-Ok.ensures)
     c.step_over.ensures.course
 
 pub returns-in-Err-clause-course : goal.returns-in-Err-clause-course
 returns-in-Err-clause-course g c =
     let w = g.T.Turns.writer c.args.site.now in
     nothing_done c.args.stand w w _ refl
+
+pub step_over-requires-clause-fit : goal.step_over-requires-clause-fit
+step_over-requires-clause-fit g c =
+    fit_closed (g.T.Turns.layout c.args.site.now).names c.args.cell c.number.result c.args.commit
+    c.args.step c.in-Ok.step c.requires.in_range.in_range c.requires.fit c.in-Ok.ensures
+
+pub step_over-requires-clause-filled : goal.step_over-requires-clause-filled
+step_over-requires-clause-filled g c =
+    filled_closed c.number.result c.args.commit c.args.step c.in-Ok.step
+    (omega (arith, c.len.ensures)) c.in-Ok.ensures

@@ -1,4 +1,7 @@
-use Rattle.std.proofs.Common.{ap}
+use Rattle.std.proofs.Common.{◌≡◌, ap, subst}
+use Rattle.std.specs.List.{AllByRecursion}
+use Rattle.exchange_rules.specs.Cells.{author_of}
+use Rattle.exchange_rules.specs.declared.log_entry.LogEntry.TheVariants as logged
 use Rattle.stream_site.specs.Plains.{Plain}
 use Rattle.stream_site.proofs.PlainLemmas.{alone_at}
 use Rattle.stream_site.proofs.plain.PlainSite.names.Goals as goal
@@ -8,3 +11,5 @@ returns-clause-alone c =
     alone_at c.args.self.now c.self.inside.shards.items
     (ap (λ (p : Plain). p.shards) c.self.view_is)
     c.self.invariant.own
+    (subst (AllByRecursion (λ e. author_of (logged.Book e) ≡ 1))
+    (ap (λ (p : Plain). p.book) c.self.view_is) c.self.invariant.noted)

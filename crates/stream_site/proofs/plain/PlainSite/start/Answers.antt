@@ -1,6 +1,10 @@
-use Rattle.std.proofs.Common.{length, ap, ◌∙◌, arith}
+use Rattle.std.proofs.Common.{◌+◌, ◌≡◌, length, sym, ap, ◌∙◌, subst, arith}
 use Rattle.std.proofs.lemmas.List.{length-replicate}
+use Rattle.std.specs.List.{AllByRecursion}
 use Rattle.topic_book.specs.Cells.{cells_in}
+use Rattle.topic_book.specs.Fitness.{IsFitEntry}
+use Rattle.exchange_rules.specs.Cells.{author_of}
+use Rattle.exchange_rules.specs.declared.log_entry.LogEntry.TheVariants as logged
 use Rattle.stream_site.proofs.EmptyLemmas.{empty_long, empty_own}
 use Rattle.stream_site.proofs.plain.PlainSite.start.Goals as goal
 
@@ -10,11 +14,14 @@ invariant_of-result c =
     let long = empty_long c.args.limit (cells_in c.as_slice.result.now) c.in_ok-shards.shards.items
     empty in
     let names = ap cells_in c.as_slice.ensures in
-    let zeros = ap length c.in_ok-looks.ensures ∙ length-replicate c.len-2.result 0 in
+    let zeros = ap length c.in_ok-looks.ensures ∙ length-replicate (c.len-2.result + 1) 0 in
+    let few = c.in_ok-shards.shards.ok.0 in
     record {
       counted = long ∙ names;
       few = omega (arith, long, names, c.len.ensures, c.if-len.false);
       limits = empty.limits;
       own = empty_own (cells_in c.as_slice.result.now) c.in_ok-shards.shards.items empty.entries;
-      looks = zeros ∙ (c.len-2.ensures ∙ c.in_ok-shards.shards.ok.0);
+      looks = omega (arith, zeros, c.len-2.ensures, few);
+      noted = subst (AllByRecursion (λ e. author_of (logged.Book e) ≡ 1)) (sym c.empty.ensures) tt;
+      topics = subst (AllByRecursion (IsFitEntry c.args.names)) (sym c.empty.ensures) tt;
     }

@@ -5,7 +5,8 @@ use Rattle.exchange_rules.proofs.StepLemmas.{nothing_done}
 use Rattle.stream_site.specs.Shares.{AreShares, AreCounts}
 use Rattle.stream_site.proofs.ShareLemmas.{shares_counts}
 use Rattle.stream_site.proofs.UpdateLemmas.{shares_steps, writes_passed, settled_passed, index_plain, index_committed, index_refused, settle_refused}
-use Rattle.stream_site.proofs.index.index_over.Goals as goal
+use Rattle.stream_site.proofs.MayLemmas.{fit_shares}
+use Rattle.stream_site.proofs.index.index_steps_over.Goals as goal
 
 pub returns-in-Err-clause-course : goal.returns-in-Err-clause-course
 returns-in-Err-clause-course g c =
@@ -17,15 +18,15 @@ returns-in-Err-counts_of-clause-course g c =
     let w = g.T.Turns.writer c.args.site.now in
     nothing_done 0 w w _ refl
 
-pub write_all_over-requires : goal.write_all_over-requires
-write_all_over-requires g c =
+pub write_all_over-requires-clause-steps : goal.write_all_over-requires-clause-steps
+write_all_over-requires-clause-steps g c =
     let me = (g.T.Turns.writer c.args.site.now).me in
     let n = shards_of (g.T.Turns.layout c.args.site.now).names c.args.collection.now in
     let a = subst (λ k. AreShares me k c.args.writes c.in-Ok.steps.items) c.width-shards.ensures
     (subst (λ k. AreShares k c.width-shards.result c.args.writes c.in-Ok.steps.items)
     c.number.ensures c.in-Ok.ensures) in
     let few : length c.args.writes < 2 ^ 64 = omega (arith, c.len-total.ensures) in
-    shares_steps me n c.args.writes c.in-Ok.steps.items a c.requires.storable c.requires.known few
+    shares_steps me n c.args.writes c.in-Ok.steps.items a c.requires.known few
 
 pub returns-in-Err-write_all_over-clause-course : goal.returns-in-Err-write_all_over-clause-course
 returns-in-Err-write_all_over-clause-course g c =
@@ -97,3 +98,9 @@ returns-clause-course g c =
     c.width-shards.ensures total counted c.in-Err-settle_all_over.ensures.course in
     settle_refused w mid new l c.args.collection.now c.args.writes c.args.commit
     c.in-Err-settle_all_over.fault c.if-not-commit.false written settled
+
+pub write_all_over-requires-clause-fit : goal.write_all_over-requires-clause-fit
+write_all_over-requires-clause-fit g c =
+    fit_shares (g.T.Turns.layout c.args.site.now).names c.args.collection.now c.number.result
+    c.width-shards.result c.args.writes c.in-Ok.steps.items c.requires.storable
+    c.width-shards.ensures c.in-Ok.ensures

@@ -1,0 +1,38 @@
+use Rattle.std.proofs.Common.{refl, sym, ◌∙◌}
+use Rattle.exchange_rules.specs.Bindings.{book_seen}
+use Rattle.exchange_rules.proofs.BindingLemmas.{store_nothing}
+use Rattle.exchange_rules.proofs.StepLemmas.{nothing_done}
+use Rattle.stream_site.proofs.TopicLemmas.{may_store, stored_stands}
+use Rattle.stream_site.proofs.topics.store_seen_over.Goals as goal
+
+pub returns-then-not-raises-clause-course : goal.returns-then-not-raises-clause-course
+returns-then-not-raises-clause-course g c =
+    let l = g.T.Turns.layout c.args.site.now in
+    let w = g.T.Turns.writer c.args.site.now in
+    store_nothing w l.names c.args.key.now c.args.upto (book_seen l w)
+    (sym c.raises.ensures ∙ c.if-not-raises.true)
+
+pub returns-in_default-clause-course : goal.returns-in_default-clause-course
+returns-in_default-clause-course g c =
+    let w = g.T.Turns.writer c.args.site.now in
+    nothing_done 0 w w _ refl
+
+pub note-requires-clause-allowed : goal.note-requires-clause-allowed
+note-requires-clause-allowed g c =
+    let w = g.T.Turns.writer c.args.site.now in
+    may_store (g.T.Turns.layout c.args.site.now).names w.me c.number-by.result w.seen
+    c.args.key.now c.in-Ok.key c.args.upto c.number-by.ensures c.in-Ok.ensures
+    c.requires.delivered (sym c.raises.ensures ∙ c.if-not-raises.false)
+
+pub returns-clause-course : goal.returns-clause-course
+returns-clause-course g c =
+    let l = g.T.Turns.layout c.args.site.now in
+    let w = g.T.Turns.writer c.args.site.now in
+    stored_stands w (g.T.Turns.writer c.note.new.self) l.names c.number-by.result c.args.key.now
+    c.in-Ok.key c.args.upto (book_seen l w) (sym c.raises.ensures ∙ c.if-not-raises.false)
+    c.requires.in_range c.in-Ok.ensures c.in-Ok-note.ensures.ok
+
+pub returns-in-Err-clause-course : goal.returns-in-Err-clause-course
+returns-in-Err-clause-course g c =
+    nothing_done 0 (g.T.Turns.writer c.args.site.now) (g.T.Turns.writer c.note.new.self) _
+    c.in-Err.ensures.err

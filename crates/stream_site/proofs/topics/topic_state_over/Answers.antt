@@ -1,0 +1,6 @@
+use Rattle.stream_site.proofs.topics.topic_state_over.Goals as goal
+
+pub returns-clause-later : goal.returns-clause-later
+returns-clause-later g c =
+    g.met.T.Turns.later_on c.args.site.now c.state_step_over-result.new.site c.leave.new.self
+    c.state_step_over-result.ensures.later c.leave.ensures.later
