@@ -1,3 +1,3 @@
 pub mod Inputs
+pub mod Openings
 pub mod Searches
-pub mod Singles

@@ -1,13 +1,16 @@
 -- What a search gives, as its expression says.
 use Rattle.std.proofs.Common.{◌≡◌, [], Option, Some, None, refl, ap, sym, ◌∙◌, IsSome, List}
 use Rattle.std.specs.Option.{option_map_or}
-use Rattle.expr_plan.specs.ExprTree as tree
-use Rattle.expr_plan.specs.ExprTree.{ExprTree, SearchParts}
-use Rattle.expr_plan.specs.ExprViews.{expr_tree}
-use Rattle.expr_plan.specs.Lists.{Collections, list_of}
-use Rattle.expr_plan.specs.Sources.{search_list, search_parts, parts_in}
-use Rattle.expr_plan.specs.declared.expr.Expr.{Expr}
-use Rattle.expr_plan.proofs.SourceLemmas.{parts_in-tree}
+use Rattle.tuple_values.specs.Document.{Doc}
+use Rattle.expr_types.specs.ExprTree.{Operator, search, tuple, select, having, sort, top, unique}
+use Rattle.expr_types.specs.ExprTree.{merge, reduce, rollup, inner_join, left_outer_join, intersect}
+use Rattle.expr_types.specs.ExprTree.{complement, hash_join, outer_hash_join, in_parallel, topic}
+use Rattle.expr_types.specs.ExprTree.{update, commit, daemon, SearchParts, operator_in}
+use Rattle.expr_types.specs.ExprViews.{expr_tree}
+use Rattle.expr_types.specs.Lists.{Collections, given}
+use Rattle.expr_types.specs.Sources.{search_list, search_parts, parts_of}
+use Rattle.expr_types.specs.declared.expr.Expr.{Expr}
+use Rattle.expr_types.proofs.SourceLemmas.{parts_of-tree}
 use Rattle.shard_versions.specs.declared.cut.CutPart.{CutPart}
 use Rattle.source_streams.specs.Cuts.{documents_of}
 use Rattle.source_streams.specs.Parts.{keys_of}
@@ -15,47 +18,50 @@ use Rattle.source_streams.specs.Reads.{searched, found_in}
 use Rattle.source_streams.specs.declared.part.Part.{Part}
 use Rattle.source_streams.proofs.PartLemmas.{part_of-whole}
 
--- the list of a tree that is a search is that of its parts
-by_parts : (docs : Collections) (t : ExprTree)
-    → option_map_or (λ p. search_list p (docs p.collection)) (parts_in t) (list_of docs t)
-    ≡ list_of docs t
-by_parts docs (tree.search p) = refl
-by_parts docs (tree.tuple fields) = refl
-by_parts docs (tree.select e items) = refl
-by_parts docs (tree.having e condition) = refl
-by_parts docs (tree.sort e by) = refl
-by_parts docs (tree.top e n by) = refl
-by_parts docs (tree.unique e over) = refl
-by_parts docs (tree.merge inputs on) = refl
-by_parts docs (tree.reduce e by op) = refl
-by_parts docs (tree.rollup e over metrics) = refl
-by_parts docs (tree.inner_join left right on) = refl
-by_parts docs (tree.left_outer_join left right on) = refl
-by_parts docs (tree.intersect left right on) = refl
-by_parts docs (tree.complement left right on) = refl
-by_parts docs (tree.hash_join e hashed on) = refl
-by_parts docs (tree.outer_hash_join e hashed on) = refl
-by_parts docs (tree.in_parallel e collection workers by) = refl
-by_parts docs (tree.topic p) = refl
-by_parts docs (tree.update e dest size) = refl
-by_parts docs (tree.commit e dest size) = refl
-by_parts docs (tree.daemon e id interval terminate) = refl
+-- the list of an operator that is a search is that of its parts
+by_parts : (docs : Collections) (op : Operator) (lists : List (List Doc))
+    → option_map_or (λ p. search_list p (docs p.collection)) (parts_of op) (given docs op lists)
+    ≡ given docs op lists
+by_parts docs (search p) lists = refl
+by_parts docs (tuple fields) lists = refl
+by_parts docs (select items) lists = refl
+by_parts docs (having condition) lists = refl
+by_parts docs (sort by) lists = refl
+by_parts docs (top n by) lists = refl
+by_parts docs (unique over) lists = refl
+by_parts docs (merge on) lists = refl
+by_parts docs (reduce by op) lists = refl
+by_parts docs (rollup over metrics) lists = refl
+by_parts docs (inner_join on) lists = refl
+by_parts docs (left_outer_join on) lists = refl
+by_parts docs (intersect on) lists = refl
+by_parts docs (complement on) lists = refl
+by_parts docs (hash_join on) lists = refl
+by_parts docs (outer_hash_join on) lists = refl
+by_parts docs (in_parallel collection workers by) lists = refl
+by_parts docs (topic p) lists = refl
+by_parts docs (update dest size) lists = refl
+by_parts docs (commit dest size) lists = refl
+by_parts docs (daemon id interval terminate) lists = refl
 
 -- the whole part of what is found is that list
-found_whole : (cut : List CutPart) (part : Part) (t : ExprTree) (parts : Option SearchParts)
-    → parts_in t ≡ parts → IsSome parts → part.index ≡ 0 → part.of ≡ 1
+found_whole : (cut : List CutPart) (part : Part) (op : Operator) (lists : List (List Doc))
+    (parts : Option SearchParts) → parts_of op ≡ parts → IsSome parts → part.index ≡ 0
+    → part.of ≡ 1
     → option_map_or (λ p. found_in p cut part) parts []
-    ≡ list_of (λ c. documents_of c cut) t
-found_whole cut part t None is some index of = absurd (cc)
-found_whole cut part t (Some p) is some index of =
+    ≡ given (λ c. documents_of c cut) op lists
+found_whole cut part op lists None is some index of = absurd (cc)
+found_whole cut part op lists (Some p) is some index of =
     let docs : Collections = λ c. documents_of c cut in
     rw (index, of) (part_of-whole (keys_of p.partition_keys) (search_list p (docs p.collection)))
-    ∙ ap (λ w. option_map_or (λ q. search_list q (docs q.collection)) w (list_of docs t)) (sym is)
-    ∙ by_parts docs t
+    ∙ ap (λ w. option_map_or (λ q. search_list q (docs q.collection)) w (given docs op lists))
+    (sym is)
+    ∙ by_parts docs op lists
 
 -- so is that of what an expression finds, which is a search
-pub searched_whole : (e : Expr) (cut : List CutPart) (part : Part) → IsSome (search_parts e)
-    → part.index ≡ 0 → part.of ≡ 1
-    → searched e cut part ≡ list_of (λ c. documents_of c cut) (expr_tree e)
-searched_whole e cut part some index of =
-    found_whole cut part (expr_tree e) (search_parts e) (parts_in-tree e) some index of
+pub searched_whole : (e : Expr) (cut : List CutPart) (part : Part) (lists : List (List Doc))
+    → IsSome (search_parts e) → part.index ≡ 0 → part.of ≡ 1
+    → searched e cut part ≡ given (λ c. documents_of c cut) (operator_in (expr_tree e)) lists
+searched_whole e cut part lists some index of =
+    found_whole cut part (operator_in (expr_tree e)) lists (search_parts e) (parts_of-tree e) some
+    index of

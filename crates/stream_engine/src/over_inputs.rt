@@ -1,20 +1,20 @@
 // Streams of kernels over their inputs.
-ghost use Rattle.std.specs.Prelude.{◌≡◌, List, [], ◌∷◌, length, IfOk};
+ghost use Rattle.std.specs.Prelude.{◌≡◌, List, [], ◌∷◌, length, IfOk, false};
 ghost use Rattle.std.specs.List.{AllByRecursion};
 ghost use Rattle.tuple_values.specs.Document.{Doc};
 ghost use Rattle.sort_spec.specs.Sorting.{IsAscending};
 ghost use Rattle.sort_spec.specs.Terms.{less};
-ghost use Rattle.expr_plan.specs.ConditionViews.{condition_tree};
-ghost use Rattle.expr_plan.specs.Conditions.{having_list};
-ghost use Rattle.expr_plan.specs.Groups.{unique_list, reduce_list, rollup_list};
-ghost use Rattle.expr_plan.specs.Orders.{sort_list, top_list, merge_list, IsSortedOver};
-ghost use Rattle.expr_plan.specs.Rows.{select_list};
+ghost use Rattle.expr_types.specs.ConditionViews.{condition_tree};
+ghost use Rattle.expr_types.specs.Conditions.{having_list};
+ghost use Rattle.expr_types.specs.Groups.{unique_list, reduce_list, rollup_list};
+ghost use Rattle.expr_types.specs.Orders.{sort_list, top_list, merge_list, IsSortedOver};
+ghost use Rattle.expr_types.specs.Rows.{select_list};
 ghost use Rattle.stream_engine.specs.Flows.{rests_of};
 ghost use Rattle.stream_engine.specs.Kernels.{any_out, any_ready, any_ended};
 
 use crate::Stream;
 use crate::any_kernel::AnyKernel;
-use expr_plan::{Condition, GroupOp, Items, Metrics};
+use expr_types::{Condition, GroupOp, Items, Metrics};
 use group_kernels::{ReduceKernel, RollupKernel, UniqueKernel};
 use order_kernels::{MergeKernel, SortKernel, TopKernel};
 use row_kernels::{HavingKernel, SelectKernel};
@@ -26,7 +26,8 @@ use tuple_values::{FieldList, Memory};
 fn over_one(alloc: Global, kernel: AnyKernel, input: Stream) -> Result<Stream, Memory>
     requires ready { (docs : List Doc) → any_ready kernel (docs ∷ []) }
     requires width { length (any_ended kernel) ≡ 1 }
-    ensures { IfOk result (λ stream. stream.0 ≡ any_out kernel (input.0 ∷ [])) }
+    ensures list { IfOk result (λ stream. stream.0 ≡ any_out kernel (input.0 ∷ [])) }
+    ensures lives { IfOk result (λ stream. stream.2 ≡ false) }
 {
     let inputs = Vec::from_array(alloc, [input])?;
     Ok(Stream::over(kernel, inputs))
@@ -35,7 +36,8 @@ fn over_one(alloc: Global, kernel: AnyKernel, input: Stream) -> Result<Stream, M
 /// The stream of a select.
 #[tactic(auto, unfolding(crate::specs::Kernels::any_ended, crate::specs::Kernels::any_ready, crate::specs::Kernels::any_out))]
 pub(crate) fn select(alloc: Global, input: Stream, items: &Items) -> Result<Stream, Memory>
-    ensures { IfOk result (λ stream. stream.0 ≡ select_list items.now input.0) }
+    ensures list { IfOk result (λ stream. stream.0 ≡ select_list items.now input.0) }
+    ensures lives { IfOk result (λ stream. stream.2 ≡ false) }
 {
     let kernel = SelectKernel::make(alloc, items)?;
     over_one(alloc, AnyKernel::Select(kernel), input)
@@ -44,8 +46,9 @@ pub(crate) fn select(alloc: Global, input: Stream, items: &Items) -> Result<Stre
 /// The stream of a having.
 #[tactic(auto, unfolding(crate::specs::Kernels::any_ended, crate::specs::Kernels::any_ready, crate::specs::Kernels::any_out))]
 pub(crate) fn having(alloc: Global, input: Stream, condition: &Condition) -> Result<Stream, Memory>
-    ensures { IfOk result (λ stream. stream.0
+    ensures list { IfOk result (λ stream. stream.0
         ≡ having_list (condition_tree condition.now) input.0) }
+    ensures lives { IfOk result (λ stream. stream.2 ≡ false) }
 {
     let kernel = HavingKernel::make(alloc, condition)?;
     over_one(alloc, AnyKernel::Having(kernel), input)
@@ -54,7 +57,8 @@ pub(crate) fn having(alloc: Global, input: Stream, condition: &Condition) -> Res
 /// The stream of a sort.
 #[tactic(auto, unfolding(crate::specs::Kernels::any_ended, crate::specs::Kernels::any_ready, crate::specs::Kernels::any_out))]
 pub(crate) fn sort(alloc: Global, input: Stream, by: &SortSpec) -> Result<Stream, Memory>
-    ensures { IfOk result (λ stream. stream.0 ≡ sort_list by.now input.0) }
+    ensures list { IfOk result (λ stream. stream.0 ≡ sort_list by.now input.0) }
+    ensures lives { IfOk result (λ stream. stream.2 ≡ false) }
 {
     let kernel = SortKernel::make(alloc, by)?;
     over_one(alloc, AnyKernel::Sort(kernel), input)
@@ -63,7 +67,8 @@ pub(crate) fn sort(alloc: Global, input: Stream, by: &SortSpec) -> Result<Stream
 /// The stream of a top.
 #[tactic(auto, unfolding(crate::specs::Kernels::any_ended, crate::specs::Kernels::any_ready, crate::specs::Kernels::any_out))]
 pub(crate) fn top(alloc: Global, input: Stream, n: u64, sort: &SortSpec) -> Result<Stream, Memory>
-    ensures { IfOk result (λ stream. stream.0 ≡ top_list n sort.now input.0) }
+    ensures list { IfOk result (λ stream. stream.0 ≡ top_list n sort.now input.0) }
+    ensures lives { IfOk result (λ stream. stream.2 ≡ false) }
 {
     let kernel = TopKernel::make(alloc, n, sort)?;
     over_one(alloc, AnyKernel::Top(kernel), input)
@@ -73,7 +78,8 @@ pub(crate) fn top(alloc: Global, input: Stream, n: u64, sort: &SortSpec) -> Resu
 #[tactic(auto, unfolding(crate::specs::Kernels::any_ended, crate::specs::Kernels::any_ready, crate::specs::Kernels::any_out))]
 pub(crate) fn unique(alloc: Global, input: Stream, over: &FieldList) -> Result<Stream, Memory>
     requires { IsSortedOver over.now input.0 }
-    ensures { IfOk result (λ stream. stream.0 ≡ unique_list over.now input.0) }
+    ensures list { IfOk result (λ stream. stream.0 ≡ unique_list over.now input.0) }
+    ensures lives { IfOk result (λ stream. stream.2 ≡ false) }
 {
     let kernel = UniqueKernel::make(alloc, over)?;
     over_one(alloc, AnyKernel::Unique(kernel), input)
@@ -88,7 +94,8 @@ pub(crate) fn reduce(
     group: &GroupOp,
 ) -> Result<Stream, Memory>
     requires { IsSortedOver by.now input.0 }
-    ensures { IfOk result (λ stream. stream.0 ≡ reduce_list by.now group.now input.0) }
+    ensures list { IfOk result (λ stream. stream.0 ≡ reduce_list by.now group.now input.0) }
+    ensures lives { IfOk result (λ stream. stream.2 ≡ false) }
 {
     let kernel = ReduceKernel::make(alloc, by, group)?;
     over_one(alloc, AnyKernel::Reduce(kernel), input)
@@ -103,7 +110,8 @@ pub(crate) fn rollup(
     metrics: &Metrics,
 ) -> Result<Stream, Memory>
     requires { IsSortedOver over.now input.0 }
-    ensures { IfOk result (λ stream. stream.0 ≡ rollup_list over.now metrics.now input.0) }
+    ensures list { IfOk result (λ stream. stream.0 ≡ rollup_list over.now metrics.now input.0) }
+    ensures lives { IfOk result (λ stream. stream.2 ≡ false) }
 {
     let kernel = RollupKernel::make(alloc, over, metrics)?;
     over_one(alloc, AnyKernel::Rollup(kernel), input)
@@ -113,7 +121,8 @@ pub(crate) fn rollup(
 #[tactic(auto, unfolding(crate::specs::Kernels::any_ended, crate::specs::Kernels::any_ready, crate::specs::Kernels::any_out))]
 pub(crate) fn merge(alloc: Global, inputs: Vec<Stream>, on: &SortSpec) -> Result<Stream, Memory>
     requires { AllByRecursion (IsAscending (less on.now)) (rests_of inputs.items) }
-    ensures { IfOk result (λ stream. stream.0 ≡ merge_list on.now (rests_of inputs.items)) }
+    ensures list { IfOk result (λ stream. stream.0 ≡ merge_list on.now (rests_of inputs.items)) }
+    ensures lives { IfOk result (λ stream. stream.2 ≡ false) }
 {
     let Ok(count) = u32::try_from(inputs.len()) else {
         return Err(Memory::OutOfMemory);

@@ -1,10 +1,10 @@
 // Streams, read by the tuple.
-ghost use Rattle.std.specs.Prelude.{◌≡◌, List, length, true, false};
+ghost use Rattle.std.specs.Prelude.{◌≡◌, ◌<◌, ◌+◌, List, length, true, false, slice_index_or};
 ghost use Rattle.std.specs.Prelude.{IfOk, OnOk, IfErr, IsErr};
 ghost use Rattle.source_streams.specs.Reads.{IsNext};
-ghost use Rattle.stream_engine.specs.Flows.{rests_of};
+ghost use Rattle.stream_engine.specs.Flows.{rests_of, to_come, unended};
 ghost use Rattle.stream_engine.specs.Views.{list_in, depth_in, IsSound, deepest};
-ghost use Rattle.stream_engine.specs.Kernels.{any_out, any_ready, any_ended};
+ghost use Rattle.stream_engine.specs.Kernels.{any_out, any_ready, any_ended, any_waits};
 
 use crate::any_kernel::AnyKernel;
 use kernel_laws::{Ask, Kernel};
@@ -58,7 +58,8 @@ impl Model for Stream {
 impl Stream {
     /// The stream of a search.
     pub(crate) fn search(cursor: SearchCursor) -> Stream
-        ensures { result.0 ≡ cursor }
+        ensures list { result.0 ≡ cursor }
+        ensures lives { result.2 ≡ false }
     {
         Stream {
             node: Node::Search(cursor),
@@ -68,7 +69,8 @@ impl Stream {
 
     /// The stream of one tuple.
     pub(crate) fn once(once: TupleOnce) -> Stream
-        ensures { result.0 ≡ once }
+        ensures list { result.0 ≡ once }
+        ensures lives { result.2 ≡ false }
     {
         Stream {
             node: Node::Once(once),
@@ -80,7 +82,8 @@ impl Stream {
     pub(crate) fn over(kernel: AnyKernel, inputs: Vec<Stream>) -> Stream
         requires ready { any_ready kernel (rests_of inputs.items) }
         requires width { length (any_ended kernel) ≡ length inputs.items }
-        ensures { result.0 ≡ any_out kernel (rests_of inputs.items) }
+        ensures list { result.0 ≡ any_out kernel (rests_of inputs.items) }
+        ensures lives { result.2 ≡ false }
     {
         Stream {
             node: Node::Kernel { kernel, inputs },
@@ -137,21 +140,39 @@ fn pull(kernel: &mut AnyKernel, inputs: &mut Vec<Stream>) -> Result<Option<Tuple
     ensures inputs { OnOk result (length (any_ended kernel.new) ≡ length inputs.new.items) }
     ensures depth { deepest inputs.new.items ≡ deepest inputs.old.items }
 {
-    loop {
+    'asks: loop {
         match kernel.ask()? {
             Ask::Emit(tuple) => {
                 return Ok(Some(tuple));
             }
-            Ask::Need(i) => {
-                let input = &mut inputs[i as usize];
-                let tuple = input.read()?;
-                kernel.feed(i, tuple)?;
-            }
+            Ask::Need(i) => supply(kernel, inputs, i)?,
             Ask::End => {
                 return Ok(None);
             }
         }
     }
+}
+
+// Feeds a kernel with the next tuple of an input that it waits for, or with the input's end.
+#[cycle(reading)]
+#[tactic(auto, using(crate::proofs::Inputs::deepest_set))]
+fn supply(kernel: &mut AnyKernel, inputs: &mut Vec<Stream>, i: u32) -> Result<(), Memory>
+    requires open { slice_index_or (any_ended kernel.old) i true ≡ false }
+    requires waits { any_waits kernel.old i }
+    requires ready { any_ready kernel.old (rests_of inputs.old.items) }
+    requires inputs { length (any_ended kernel.old) ≡ length inputs.old.items }
+    ensures ready { OnOk result (any_ready kernel.new (rests_of inputs.new.items)) }
+    ensures out { OnOk result (any_out kernel.new (rests_of inputs.new.items)
+        ≡ any_out kernel.old (rests_of inputs.old.items)) }
+    ensures inputs { OnOk result (length (any_ended kernel.new) ≡ length inputs.new.items) }
+    ensures depth { deepest inputs.new.items ≡ deepest inputs.old.items }
+    ensures falls { OnOk result (to_come inputs.new.items + unended (any_ended kernel.new)
+        < to_come inputs.old.items + unended (any_ended kernel.old)) }
+{
+    let input = &mut inputs[i as usize];
+    let tuple = input.read()?;
+    kernel.feed(i, tuple)?;
+    Ok(())
 }
 
 /// All tuples that are still to come.

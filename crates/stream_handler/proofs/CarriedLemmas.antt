@@ -1,6 +1,7 @@
 -- How a request is carried out, from what its parts did.
-use Rattle.std.proofs.Common.{◌≡◌, ◌≢◌, refl, sym, ap, subst}
-use Rattle.std.specs.Prelude.{ℕ, Bool, Option, None, Result, Ok, Err, IfOk, codes}
+use Rattle.std.proofs.Common.{◌≡◌, ◌≢◌, refl, sym, ap, ◌∙◌, subst}
+use Rattle.std.proofs.lemmas.Option.{same_Some}
+use Rattle.std.specs.Prelude.{ℕ, Bool, Option, Some, None, Result, Ok, Err, IfOk, codes}
 use Rattle.tuple_values.specs.Document.{ByteList}
 use Rattle.tuple_values.specs.declared.memory.Memory.{Memory}
 use Rattle.json_text.specs.declared.fault.JsonFault.{JsonFault}
@@ -11,16 +12,17 @@ use Rattle.exchange_rules.specs.Following.{Writer, Reaches, Answers, Begins}
 use Rattle.exchange_rules.specs.Calls.{Answered, Stopped}
 use Rattle.exchange_rules.specs.Rows.{Layout}
 use Rattle.exchange_rules.specs.declared.fault.SiteFault.{SiteFault}
-use Rattle.exchange_rules.specs.declared.fault.SiteFault.TheVariants.{ShardFull, OutOfMemory}
+use Rattle.exchange_rules.specs.declared.fault.SiteFault.TheVariants.{ShardFull, TopicBound, BookFull, OutOfMemory}
 use Rattle.exchange_rules.proofs.ReachLemmas.{reaches_none, reaches_then}
-use Rattle.expr_plan.specs.ExprTree.{ExprTree}
+use Rattle.expr_types.specs.ExprTree.{ExprTree}
 use Rattle.stream_handler.specs.Outcomes.{exception}
 use Rattle.topic_book.specs.Fitness.{shards_of}
 use Rattle.form_request.specs.declared.request.Request.{Request}
 use Rattle.stream_handler.specs.Refusals.{refusal}
-use Rattle.stream_handler.specs.Requests.{Carried, IsBadBody, IsRefusal, indexed, plain_course, request_course, stream_course, update_course}
+use Rattle.stream_handler.specs.Requests.{Carried, IsBadBody, IsRefusal, full_shard, full_text, indexed, plain_course, request_course, stream_course, update_course}
 use Rattle.stream_handler.specs.declared.outcome.Outcome.{Outcome}
-use Rattle.stream_handler.specs.declared.outcome.Outcome.TheVariants.{Indexed}
+use Rattle.stream_handler.specs.declared.outcome.Outcome.TheVariants.{Indexed, Refused}
+use Rattle.stream_handler.specs.declared.update.FullShard.{FullShard}
 
 -- a writer that did nothing followed a beginning of any course
 pub nothing_done : {A : Type 0} (w : Writer) (p : Course A) → Begins w w p
@@ -34,6 +36,8 @@ nothing_asked w a = reaches_none w (ends a)
 pub first_stopped : {A B : Type 0} (old new : Writer) (p : Course A) (next : A → Course B)
     (fault : SiteFault) → Stopped old new p fault → Begins old new (and_then p next)
 first_stopped old new p next (ShardFull collection shard stand) s = absurd s
+first_stopped old new p next (TopicBound kept) s = absurd s
+first_stopped old new p next (BookFull topics) s = absurd s
 first_stopped old new p next (OutOfMemory stand) s =
     (and_then s.rest next, reaches_then old new p s.rest next s.stood.reached)
 
@@ -96,9 +100,29 @@ index_refused old new p (ShardFull collection shard stand) (Ok o) s e =
     (ap ends (sym e)) s
 index_refused old new p (ShardFull collection shard stand) (Err memory) s e =
     first_done old new p (λ r. ends (indexed r)) (Err (ShardFull collection shard stand)) s
+index_refused old new p (TopicBound kept) (Ok o) s e =
+    first_answered old new p (λ r. ends (indexed r)) (Err (TopicBound kept)) o (ap ends (sym e)) s
+index_refused old new p (TopicBound kept) (Err memory) s e =
+    first_done old new p (λ r. ends (indexed r)) (Err (TopicBound kept)) s
+index_refused old new p (BookFull topics) (Ok o) s e =
+    first_answered old new p (λ r. ends (indexed r)) (Err (BookFull topics)) o (ap ends (sym e)) s
+index_refused old new p (BookFull topics) (Err memory) s e =
+    first_done old new p (λ r. ends (indexed r)) (Err (BookFull topics)) s
 index_refused old new p (OutOfMemory stand) (Ok o) s e = absurd e
 index_refused old new p (OutOfMemory stand) (Err memory) s e =
     first_stopped old new p (λ r. ends (indexed r)) (OutOfMemory stand) s
+
+-- a full shard is told as what it is
+pub full_told : (fault : SiteFault) (full : FullShard) (text : ByteList)
+    → full_shard fault ≡ Some full → text ≡ full_text full.collection full.shard full.stand
+    → IsRefusal fault (Refused 507 text)
+full_told (ShardFull collection shard stand) full text is told =
+    ap (Refused 507)
+    (told ∙ ap (λ (f : FullShard). full_text f.collection f.shard f.stand)
+    (sym (same_Some _ full is)))
+full_told (TopicBound kept) full text is told = absurd (cc)
+full_told (BookFull topics) full text is told = absurd (cc)
+full_told (OutOfMemory stand) full text is told = absurd (cc)
 
 -- a collection that isn't there is told so
 pub unknown_told : (w : Writer) (l : Layout) (r : Request) (res : Result Outcome Memory)

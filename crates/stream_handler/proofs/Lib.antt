@@ -3,6 +3,8 @@ pub mod CarriedLemmas
 pub mod PassLemmas
 pub mod WireLemmas
 pub mod WaitLemmas
+pub mod SoundLemmas
 pub mod ServeLemmas
 pub mod OneLemmas
 pub mod ConnectionLemmas
+pub mod TellingLemmas

@@ -26,6 +26,7 @@ use Rattle.stream_handler.specs.declared.ending.End.TheVariants as end
 use Rattle.stream_handler.specs.declared.exchange.Exchange.{Exchange}
 use Rattle.stream_handler.specs.declared.outcome.Outcome.{Outcome}
 use Rattle.stream_handler.proofs.PassLemmas.{passes_join}
+use Rattle.stream_handler.proofs.SoundLemmas.{sound_of}
 use Rattle.form_request.specs.Readers.{HeldReads}
 use Rattle.form_request.specs.Streams.{fed}
 use Rattle.form_request.specs.declared.reading.After.TheVariants.{Rest}
@@ -37,14 +38,11 @@ pub sound_still : (l : Layout) (me : ℕ) (s t : List Log) (had end : List ℕ) 
     → AreSound l me s had xs end → AreSound l me t had xs end
 sound_still l me s t had end [] g i = i
 sound_still l me s t had end (a ∷ xs) g i =
-    let one : IsSound me t had (request_course l a.message.request) a.exchange a.outcome i.0 = record {
-      acts = i.1.acts;
-      marks = i.1.marks;
-      own = i.1.own;
-      followed = follows_still me s t had (request_course l a.message.request) i.1.acts
-          (ends a.outcome) i.0 g i.1.followed;
-      at_once = i.1.at_once;
-    } in
+    let one : IsSound me t had (request_course l a.message.request) a.exchange a.outcome i.0 =
+    sound_of l me t had a.message.request a.exchange a.outcome i.0 i.1.acts i.1.marks i.1.own
+    i.1.at_once
+    (follows_still me s t had (request_course l a.message.request) i.1.acts (ends a.outcome) i.0 g
+    i.1.followed) in
     (i.0, one, sound_still l me s t i.0 end xs g i.2)
 
 -- some and then others
@@ -81,13 +79,8 @@ exchanged_one l w v message x o c = subst P (sym c.rest) now
       grown = c.carried.grown;
       sound = (
         counts c.end.seen,
-        record {
-          acts = c.carried.acts;
-          marks = marks;
-          own = c.own ∙ c.carried.own;
-          followed = c.carried.followed;
-          at_once = c.at_once;
-        },
+        sound_of l w.me c.end.seen (counts w.seen) message.request x o (counts c.end.seen)
+            c.carried.acts marks (c.own ∙ c.carried.own) c.at_once c.carried.followed,
         refl,
       );
       looked = λ cell.
@@ -159,6 +152,7 @@ module _ (names : List NameShards) (old mid new : Wire) (xs ys : List Answer)
     passed = all_passed q.told q.passed;
     part = q.part;
     rest = q.rest;
+    due = q.due;
     is = q.is;
     written = written_more ys q.part q.written;
   }

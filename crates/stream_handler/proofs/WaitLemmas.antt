@@ -1,5 +1,5 @@
 -- Where one answer of a stream of requests leads a connection that waits.
-use Rattle.std.proofs.Common.{◌≡◌, ℕ, ◌≤◌, Bool, true, false, List, [], ◌++◌, Option, Some, None, refl, sym, ap, subst, arith, append-nil, inl, ◌∙◌}
+use Rattle.std.proofs.Common.{◌≡◌, ◌≢◌, ℕ, ◌≤◌, Bool, true, false, List, [], ◌∷◌, ◌++◌, Option, Some, None, refl, sym, ap, subst, arith, append-nil, inl, ◌∙◌}
 use Rattle.tuple_values.specs.Document.{ByteList}
 use Rattle.tuple_values.specs.declared.names.NameShards.{NameShards}
 use Rattle.io_edge.specs.Edge.{Appends}
@@ -53,6 +53,20 @@ told_first stage.Head once = absurd (cc)
 told_first (stage.Body plan) once = refl
 told_first (stage.Stopped status) once = absurd (cc)
 told_first stage.Closed once = absurd (cc)
+
+-- a text of one byte or more
+abbrev IsText : List ℕ → Type 0
+IsText [] = ⊥
+IsText (byte ∷ text) = Unit {0}
+
+-- where `100 Continue` is said, something is
+said_due : said true ≢ []
+said_due = λ e. subst IsText e tt
+
+-- something is said where a message is refused
+refusal_due : (status : ℕ) → refusal_reply status ≢ []
+unfolding refusal_reply
+refusal_due status = λ e. subst IsText e tt
 
 module _ (names : List NameShards) (start old : Wire) (told : Bool) (w : IsWaiting names start old told) where
   -- where it stops now, more of the source may be lost
@@ -152,6 +166,7 @@ turned_refused names start old told w status held t written writes e says counts
         passed = p;
         part = says.0;
         rest = says.1;
+        due = λ e. refusal_due status (sym first.1 ∙ e);
         is = first.1 ∙ says.2;
         written = appends_join start.written old.written written [] says.0 before says.3;
       }),
@@ -208,6 +223,7 @@ turned_continue names start old told w held t written writes r says counts = by_
               passed = p;
               part = part.0;
               rest = part.1;
+              due = λ e. said_due (sym (told_first held.stage p.passes.fits) ∙ e);
               is = told_first held.stage p.passes.fits ∙ part.2;
               written = appends_join start.written old.written written [] part.0 before part.3;
             }),

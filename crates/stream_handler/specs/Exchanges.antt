@@ -3,11 +3,13 @@ use Rattle.std.specs.Prelude.{ℕ, ◌≡◌, List, [], ◌∷◌, ◌++◌, map
 use Rattle.std.specs.List.{flat_map}
 use Rattle.tuple_values.specs.Document.{ByteList}
 use Rattle.shard_versions.specs.declared.cut.CutMark.{CutMark}
+use Rattle.shard_versions.specs.declared.cut.OwnMark.{OwnMark}
 use Rattle.exchange_rules.specs.Acts.{Act, marks_of, own_of}
 use Rattle.exchange_rules.specs.Cells.{Log}
 use Rattle.exchange_rules.specs.Courses.{Course, ends}
-use Rattle.exchange_rules.specs.Following.{Follows, Writer, Answers, cleared}
+use Rattle.exchange_rules.specs.Following.{Follows, Writer, Answers, cleared, counts}
 use Rattle.exchange_rules.specs.Rows.{Layout}
+use Rattle.exchange_rules.specs.Told.{AreTold, AreLookedAt}
 use Rattle.form_request.specs.declared.reading.Message.{Message}
 use Rattle.form_request.specs.declared.request.Request.{Request}
 use Rattle.stream_handler.specs.Outcomes.{reply_of}
@@ -18,14 +20,17 @@ use Rattle.stream_handler.specs.declared.exchange.Exchange.{Exchange}
 use Rattle.stream_handler.specs.declared.outcome.Outcome.{Outcome}
 
 -- the exchange is sound for the course and this answer: over what the writer has seen, its marks
--- and own marks are those of acts that follow the whole course, from these counts to those. All
--- times are 0.
+-- and own marks are those of acts that follow the whole course, from these counts to those. What
+-- the writer appended meanwhile is just what the own marks say, each step once and in order, and
+-- each of them begins where a mark of its cell ends. All times are 0.
 pub record IsSound (me : ℕ) (seen : List Log) (had : List ℕ) (course : Course Outcome)
     (x : Exchange) (o : Outcome) (end : List ℕ) : Type 0 where
   pub acts : List Act
   pub marks : x.marks ≡ marks_of acts
   pub own : x.own ≡ own_of acts
   pub followed : Follows me seen had course acts (ends o) end
+  pub told : AreTold me seen had end x.own
+  pub looked_at : AreLookedAt x.marks x.own
   pub at_once : x.millis ≡ 0
 
 -- a message, the exchange that it led to, and its answer
@@ -61,8 +66,12 @@ replies_of answers = flat_map reply_to answers
 abbrev pub looks_of : List Answer → List CutMark
 looks_of answers = flat_map (λ a. a.exchange.marks) answers
 
+-- the own steps of these exchanges, in order
+abbrev pub owns_of : List Exchange → List OwnMark
+owns_of exchanges = flat_map (λ x. x.own) exchanges
+
 -- a request was carried out and answered: its writer began with an empty record, followed the
--- request's course, and left its record to the exchange
+-- request's course, and left its record to the exchange, which is sound
 pub record IsAnswered (l : Layout) (old new : Writer) (request : Request) (a : Answered)
     : Type 0 where
   pub outcome : Outcome
@@ -73,3 +82,5 @@ pub record IsAnswered (l : Layout) (old new : Writer) (request : Request) (a : A
   pub own : a.exchange.own ≡ end.own
   pub reply : a.reply ≡ reply_of request.closes a.exchange.millis outcome
   pub at_once : a.exchange.millis ≡ 0
+  pub sound : IsSound old.me end.seen (counts old.seen) (request_course l request) a.exchange
+      outcome (counts end.seen)

@@ -8,9 +8,9 @@ use Rattle.expr_reader.specs.Tree.{CallTree}
 use Rattle.expr_reader.specs.Reading.{read_of}
 use Rattle.expr_reader.specs.Fault as read
 use Rattle.expr_reader.specs.declared.fault.ExprFault.{ExprFault}
-use Rattle.expr_plan.specs.ExprTree.{ExprTree}
+use Rattle.expr_types.specs.ExprTree.{ExprTree}
 use Rattle.expr_plan.specs.Fault as plan
-use Rattle.expr_plan.specs.Lists.{list_of}
+use Rattle.expr_types.specs.Lists.{list_of}
 use Rattle.expr_plan.specs.Walk.{planned}
 use Rattle.expr_plan.specs.declared.fault.PlanFault.{PlanFault}
 use Rattle.expr_check.specs.Faults as check

@@ -1,7 +1,7 @@
 -- What a reader of expressions answers (own).
 use Rattle.std.specs.Prelude.{◌≡◌, Result, Ok, Err}
 use Rattle.tuple_values.specs.Document.{ByteList}
-use Rattle.expr_plan.specs.ExprTree.{ExprTree}
+use Rattle.expr_types.specs.ExprTree.{ExprTree}
 use Rattle.expr_check.specs.Views.{tree_of}
 use Rattle.expr_check.specs.declared.checked.Checked.{Checked}
 use Rattle.stream_handler.specs.declared.plain.PlainFault.{PlainFault}

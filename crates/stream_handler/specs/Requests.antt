@@ -6,9 +6,10 @@ use Rattle.std.specs.Fmt.{decimal}
 use Rattle.tuple_values.specs.Document.{ByteList}
 use Rattle.exchange_rules.specs.Courses.{Course, ends, and_then}
 use Rattle.exchange_rules.specs.Following.{Writer, Answers, Begins}
+use Rattle.exchange_rules.specs.Looking.{LooksFirst}
 use Rattle.exchange_rules.specs.Rows.{Layout, index_course, cut_course}
 use Rattle.exchange_rules.specs.declared.fault.SiteFault.{SiteFault}
-use Rattle.exchange_rules.specs.declared.fault.SiteFault.TheVariants.{ShardFull, OutOfMemory}
+use Rattle.exchange_rules.specs.declared.fault.SiteFault.TheVariants.{ShardFull, TopicBound, BookFull, OutOfMemory}
 use Rattle.form_request.specs.Params.{first_value}
 use Rattle.form_request.specs.declared.request.Handler.{Handler}
 use Rattle.form_request.specs.declared.request.Handler.TheVariants.{Stream, Update}
@@ -18,7 +19,7 @@ use Rattle.json_text.specs.Updates.{update_in}
 use Rattle.json_text.specs.declared.fault.JsonFault.{JsonFault}
 use Rattle.json_text.specs.declared.fault.JsonFault.TheVariants as bad
 use Rattle.json_text.specs.declared.update.Update as body
-use Rattle.expr_plan.specs.ExprTree.{ExprTree}
+use Rattle.expr_types.specs.ExprTree.{ExprTree}
 use Rattle.expr_check.specs.Reads.{collections_of}
 use Rattle.stream_handler.specs.Expressions.{expression_of, list_over}
 use Rattle.topic_book.specs.Fitness.{shards_of}
@@ -26,6 +27,7 @@ use Rattle.stream_handler.specs.Outcomes.{exception}
 use Rattle.stream_handler.specs.Refusals.{refusal}
 use Rattle.stream_handler.specs.declared.outcome.Outcome.{Outcome}
 use Rattle.stream_handler.specs.declared.outcome.Outcome.TheVariants.{Indexed, Refused, ResultSet}
+use Rattle.stream_handler.specs.declared.update.FullShard.{FullShard}
 
 -- the writer followed the course to this answer, or a beginning of it where memory was wanting
 abbrev pub Carried : {A E : Type 0} → Writer → Writer → Course A → Result A E → Type 0
@@ -38,16 +40,28 @@ full_text collection shard stand =
     codes "ShardFull " ++ collection ++ codes " " ++ decimal shard ++ codes " after "
     ++ decimal stand ++ codes " writes"
 
--- an update that was carried out, or its refusal
+-- an update that was carried out, or its refusal; no topic is bound by an update
 abbrev pub indexed : Result ℕ SiteFault → Outcome
 indexed (Ok writes) = Indexed
 indexed (Err (ShardFull collection shard stand)) = Refused 507 (full_text collection shard stand)
+indexed (Err (TopicBound kept)) = Refused 507 (codes "TopicBound")
+indexed (Err (BookFull topics)) = Refused 507 (codes "BookFull")
 indexed (Err (OutOfMemory stand)) = Refused 507 (codes "out of memory")
+
+-- the full shard that a refusal names, and none where memory was wanting; an update binds no topic
+abbrev pub full_shard : SiteFault → Option FullShard
+full_shard (ShardFull collection shard stand) =
+    Some (record { collection = collection; shard = shard; stand = stand })
+full_shard (TopicBound kept) = None
+full_shard (BookFull topics) = None
+full_shard (OutOfMemory stand) = None
 
 -- the answer is the refusal's, which isn't want of memory
 abbrev pub IsRefusal : SiteFault → Outcome → Type 0
 IsRefusal (ShardFull collection shard stand) o =
     o ≡ indexed (Err (ShardFull collection shard stand))
+IsRefusal (TopicBound kept) o = o ≡ indexed (Err (TopicBound kept))
+IsRefusal (BookFull topics) o = o ≡ indexed (Err (BookFull topics))
 IsRefusal (OutOfMemory stand) o = ⊥
 
 -- the answer is the refusal of a body, whose fault isn't want of memory
@@ -91,3 +105,9 @@ abbrev pub request_course : Layout → Request → Course Outcome
 request_course l r =
     if nat_lt 0 (shards_of l.names r.collection) then handled l r r.handler
     else ends (refusal 404)
+
+-- the course of each request looks first, and so does that of each expression
+pub record RequestsLookFirst : Type 0 where
+  pub request : (l : Layout) (r : Request) → LooksFirst None (request_course l r)
+  pub expression : (l : Layout) (read : Result ExprTree ByteList)
+      → LooksFirst None (plain_course l read)

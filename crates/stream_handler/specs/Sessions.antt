@@ -9,13 +9,14 @@ use Rattle.exchange_rules.specs.Acts.{Act, looks_at, marks_of, own_of}
 use Rattle.exchange_rules.specs.Courses.{Course}
 use Rattle.exchange_rules.specs.Following.{Follows, Grows, Writer, counts}
 use Rattle.exchange_rules.specs.Rows.{Layout}
+use Rattle.exchange_rules.specs.Told.{AreTold}
 use Rattle.form_request.specs.Readers.{HeldReads}
 use Rattle.form_request.specs.Streams.{Held, fed}
 use Rattle.form_request.specs.declared.plan.Stage.TheVariants as stage
 use Rattle.form_request.specs.declared.reading.After.{After}
 use Rattle.form_request.specs.declared.reading.After.TheVariants.{Rest}
 use Rattle.form_request.specs.declared.reading.Message.{Message}
-use Rattle.stream_handler.specs.Exchanges.{Answer, AreSound, messages_of, exchanges_of, replies_of, reply_to, looks_of}
+use Rattle.stream_handler.specs.Exchanges.{Answer, AreSound, messages_of, exchanges_of, replies_of, reply_to, looks_of, owns_of}
 use Rattle.stream_handler.specs.Passing.{Passes, front_text, said}
 use Rattle.stream_handler.specs.Refusals.{refusal_reply}
 use Rattle.stream_handler.specs.Requests.{request_course}
@@ -132,12 +133,13 @@ pub record IsUnfinished (names : List NameShards) (old new : Wire) (answers : Li
   pub written : Appends old.written new.written (replies_of answers ++ said asks)
 
 -- the bytes that were taken lead the stream past these messages, whose replies are written, and of what
--- belongs to the message at which it stands a first part is
+-- belongs to the message at which it stands, which isn't nothing, a first part is
 pub record IsStuck (names : List NameShards) (old new : Wire) (answers : List Answer) : Type 0 where
   pub told : Bool
   pub passed : Passed names old new (messages_of answers) told
   pub part : ByteList
   pub rest : ByteList
+  pub due : front_text new.held.stage told ≢ []
   pub is : front_text new.held.stage told ≡ part ++ rest
   pub written : Appends old.written new.written (replies_of answers ++ part)
 
@@ -273,3 +275,9 @@ IsConnection l old left reads written writes w v s =
     (held : Held)
     × IsBounded l old (wire held left reads written writes) w v s.exchanges s.rest s.end
     × (record_of v ≡ nothing)
+
+-- at each cell, what the writer appended is just what the own marks of the exchanges, and then
+-- those of the rest, say, each step once and in order
+abbrev pub TellsSteps : Writer → Writer → SessionEnd → Type 0
+TellsSteps w v s =
+    AreTold w.me v.seen (counts w.seen) (counts v.seen) (owns_of s.exchanges ++ s.rest.own)

@@ -1,7 +1,7 @@
 // The serving of a whole connection.
 ghost use Rattle.std.specs.Prelude.{◌≡◌, ◌<◌, ◌++◌, vec_capacity, vec_len};
 ghost use Rattle.form_request.specs.Streams.{begun};
-ghost use Rattle.stream_handler.specs.Sessions.{IsBounded, IsConnection, nothing, record_of, wire};
+ghost use Rattle.stream_handler.specs.Sessions.{IsBounded, IsConnection, TellsSteps, nothing, record_of, wire};
 ghost use Rattle.stream_handler.specs.Serving.{end_of, exchanges_in};
 
 use crate::{End, Exchange, Exchanges, OneEnd, SessionEnd, serve_one};
@@ -39,8 +39,8 @@ fn keep(exchanges: &mut Vec<Exchange>, one: OneEnd) -> Option<End>
 
 // Serves the requests of a connection until it is over, or as many as it has at most.
 fn serve_all<T: Turns, S: Source, K: Sink>(
-    site: &mut T,
     alloc: Global,
+    site: &mut T,
     requests: &mut Requests,
     source: &mut S,
     sink: &mut K,
@@ -59,7 +59,7 @@ fn serve_all<T: Turns, S: Source, K: Sink>(
         if exchanges.reserve(1).is_err() {
             return (exchanges, End::OutOfMemory);
         }
-        let one = serve_one(site, alloc, requests, source, sink);
+        let one = serve_one(alloc, site, requests, source, sink);
         if let Some(end) = keep(&mut exchanges, one) {
             return (exchanges, end);
         }
@@ -69,8 +69,8 @@ fn serve_all<T: Turns, S: Source, K: Sink>(
 
 /// Serves a connection to its end. At most 10,000 requests are answered.
 pub fn serve_connection<T: Turns, S: Source, K: Sink>(
-    site: &mut T,
     alloc: Global,
+    site: &mut T,
     source: &mut S,
     sink: &mut K,
 ) -> SessionEnd
@@ -78,11 +78,12 @@ pub fn serve_connection<T: Turns, S: Source, K: Sink>(
         (wire begun (S.left source.old) (S.faults source.old) (K.written sink.old)
         (K.faults sink.old)) (S.left source.new) (S.faults source.new) (K.written sink.new)
         (K.faults sink.new) (T.writer site.old) (T.writer site.new) result }
+    ensures told { TellsSteps (T.writer site.old) (T.writer site.new) result }
     ensures layout { T.layout site.new ≡ T.layout site.old }
 {
     let _ = site.take_record();
     let mut requests = Requests::begin(alloc);
-    let (exchanges, end) = serve_all(site, alloc, &mut requests, source, sink);
+    let (exchanges, end) = serve_all(alloc, site, &mut requests, source, sink);
     SessionEnd {
         exchanges: Exchanges::from_vec(exchanges),
         end,

@@ -30,17 +30,17 @@ pub struct Answered {
     pub exchange: Exchange,
 }
 
-/// Carries out a request. The site's record begins anew, and is the exchange's at the end. Where
-/// memory is wanting, what was done so far stands in the record. All times are 0.
-pub fn answer<T: Turns>(site: &mut T, alloc: Global, request: &Request) -> Result<Answered, Memory>
+/// Carries out a request, which is dropped. The site's record begins anew, and is the exchange's at
+/// the end. Where memory is wanting, what was done so far stands in the record. All times are 0.
+pub fn answer<T: Turns>(alloc: Global, site: &mut T, request: Request) -> Result<Answered, Memory>
     ensures ok { IfOk result (IsAnswered (T.layout site.old) (T.writer site.old)
-        (T.writer site.new) request.now) }
+        (T.writer site.new) request) }
     ensures err { IfErr result (λ _. Begins (cleared (T.writer site.old)) (T.writer site.new)
-        (request_course (T.layout site.old) request.now)) }
+        (request_course (T.layout site.old) request)) }
     ensures layout { T.layout site.new ≡ T.layout site.old }
 {
     let _ = site.take_record();
-    let outcome = run_request(site, alloc, request)?;
+    let outcome = run_request(alloc, site, &request)?;
     let reply = outcome.reply(alloc, request.closes, 0)?;
     let record = site.take_record();
     let exchange = Exchange {

@@ -12,7 +12,7 @@ use stream_site::{Turns, take_cut_over};
 use tuple_values::{Memory, Text};
 
 // What an expression gives over a cut of its collections.
-fn run<T: Turns>(site: &mut T, alloc: Global, checked: &Checked) -> Result<Outcome, Memory>
+fn run<T: Turns>(alloc: Global, site: &mut T, checked: &Checked) -> Result<Outcome, Memory>
     ensures course { Carried (T.writer site.old) (T.writer site.new)
         (plain_course (T.layout site.old) (Ok (tree_of checked.now))) result }
     ensures layout { T.layout site.new ≡ T.layout site.old }
@@ -31,8 +31,8 @@ fn run<T: Turns>(site: &mut T, alloc: Global, checked: &Checked) -> Result<Outco
 
 /// What the bytes of an expression give at the site, or the exception of their first fault.
 pub fn run_expression<T: Turns>(
-    site: &mut T,
     alloc: Global,
+    site: &mut T,
     bytes: &[u8],
 ) -> Result<Outcome, Memory>
     ensures course { Carried (T.writer site.old) (T.writer site.new)
@@ -41,15 +41,15 @@ pub fn run_expression<T: Turns>(
     ensures layout { T.layout site.new ≡ T.layout site.old }
 {
     match read_plain(alloc, site.names(), bytes) {
-        Ok(checked) => run(site, alloc, &checked),
+        Ok(checked) => run(alloc, site, &checked),
         Err(PlainFault::Told(text)) => Ok(Outcome::exception(alloc, text)),
         Err(PlainFault::OutOfMemory) => Err(Memory::OutOfMemory),
     }
 }
 
 pub(crate) fn run_stream<T: Turns>(
-    site: &mut T,
     alloc: Global,
+    site: &mut T,
     expr: Option<&str>,
 ) -> Result<Outcome, Memory>
     ensures course { Carried (T.writer site.old) (T.writer site.new)
@@ -57,7 +57,7 @@ pub(crate) fn run_stream<T: Turns>(
     ensures layout { T.layout site.new ≡ T.layout site.old }
 {
     match expr {
-        Some(text) => run_expression(site, alloc, text.as_bytes()),
+        Some(text) => run_expression(alloc, site, text.as_bytes()),
         None => {
             let text = Text::of(alloc, "MissingParam stream expr")?;
             Ok(Outcome::exception(alloc, text))

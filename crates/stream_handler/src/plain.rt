@@ -1,8 +1,8 @@
 // Plain expressions: read, planned, checked and evaluated.
 ghost use Rattle.std.specs.Prelude.{◌≡◌, IfOk};
 ghost use Rattle.expr_reader.specs.Views.{call_tree};
-ghost use Rattle.expr_plan.specs.ExprViews.{expr_tree};
-ghost use Rattle.expr_plan.specs.Lists.{AreKeysKept};
+ghost use Rattle.expr_types.specs.ExprViews.{expr_tree};
+ghost use Rattle.expr_types.specs.Lists.{AreKeysKept};
 ghost use Rattle.expr_plan.specs.Walk.{planned};
 ghost use Rattle.expr_check.specs.Faults.{fault_of};
 ghost use Rattle.expr_check.specs.Views.{tree_of};

@@ -24,19 +24,19 @@ fn is_true(value: Option<&str>) -> bool
 }
 
 // What a request does at a collection that is there.
-fn handle<T: Turns>(site: &mut T, alloc: Global, request: &Request) -> Result<Outcome, Memory>
+fn handle<T: Turns>(alloc: Global, site: &mut T, request: &Request) -> Result<Outcome, Memory>
     requires known { 0 < shards_of (T.layout site.old).names request.now.collection }
     ensures course { Carried (T.writer site.old) (T.writer site.new)
         (handled (T.layout site.old) request.now request.now.handler) result }
     ensures layout { T.layout site.new ≡ T.layout site.old }
 {
     match request.handler {
-        Handler::Stream => run_stream(site, alloc, request.param("expr")),
+        Handler::Stream => run_stream(alloc, site, request.param("expr")),
         Handler::Update => {
             let commit = is_true(request.param("commit"));
             run_update(
-                site,
                 alloc,
+                site,
                 &request.collection,
                 commit,
                 request.body.as_slice(),
@@ -56,8 +56,8 @@ fn unknown(alloc: Global) -> Result<Outcome, Memory>
 /// What a request does at the site and is answered (Solr Reference Guide, "Streaming Expressions",
 /// the `/stream` handler, and "Indexing with Update Handlers"; texts of refusals own).
 pub fn run_request<T: Turns>(
-    site: &mut T,
     alloc: Global,
+    site: &mut T,
     request: &Request,
 ) -> Result<Outcome, Memory>
     ensures course { Carried (T.writer site.old) (T.writer site.new)
@@ -67,5 +67,5 @@ pub fn run_request<T: Turns>(
     if shards_of(site.names(), request.collection.as_str()) == 0 {
         return unknown(alloc);
     }
-    handle(site, alloc, request)
+    handle(alloc, site, request)
 }

@@ -12,17 +12,18 @@ use stream_site::Turns;
 
 // Carries out a request and writes its reply.
 fn reply_to<T: Turns, K: Sink>(
-    site: &mut T,
     alloc: Global,
-    request: &Request,
+    site: &mut T,
+    request: Request,
     sink: &mut K,
 ) -> OneEnd
     ensures replied { IsReplied (T.layout site.old) (T.writer site.old) (T.writer site.new)
-        request.now (sunk (K.written sink.old) (K.written sink.new) (K.faults sink.old)
+        request (sunk (K.written sink.old) (K.written sink.new) (K.faults sink.old)
         (K.faults sink.new)) result }
     ensures layout { T.layout site.new ≡ T.layout site.old }
 {
-    let Ok(answered) = answer(site, alloc, request) else {
+    let closes = request.closes;
+    let Ok(answered) = answer(alloc, site, request) else {
         return OneEnd::Over {
             end: End::OutOfMemory,
             unfinished: None,
@@ -30,7 +31,7 @@ fn reply_to<T: Turns, K: Sink>(
     };
     let Answered { reply, exchange } = answered;
     match sink.put(reply.as_slice()) {
-        Put::All if request.closes => OneEnd::Last(exchange),
+        Put::All if closes => OneEnd::Last(exchange),
         Put::All => OneEnd::Served(exchange),
         Put::Failed => OneEnd::Over {
             end: End::WriteFault,
@@ -42,8 +43,8 @@ fn reply_to<T: Turns, K: Sink>(
 /// Serves the next request of a connection. The site's record begins anew. What is held of the
 /// stream and what is taken from the source is read as one.
 pub fn serve_one<T: Turns, S: Source, K: Sink>(
-    site: &mut T,
     alloc: Global,
+    site: &mut T,
     requests: &mut Requests,
     source: &mut S,
     sink: &mut K,
@@ -57,7 +58,7 @@ pub fn serve_one<T: Turns, S: Source, K: Sink>(
 {
     let _ = site.take_record();
     match next_request(alloc, site.names(), requests, source, sink) {
-        Ok(request) => reply_to(site, alloc, &request, sink),
+        Ok(request) => reply_to(alloc, site, request, sink),
         Err(end) => OneEnd::Over {
             end,
             unfinished: None,

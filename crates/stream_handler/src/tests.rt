@@ -42,8 +42,8 @@ fn request(
 
 // What the site answers to the request; none where it doesn't know its collection.
 fn reply(
-    site: &mut PlainSite,
     alloc: Global,
+    site: &mut PlainSite,
     handler: Handler,
     param: Option<(&str, &str)>,
     body: &str,
@@ -52,7 +52,7 @@ fn reply(
     if !site.knows(&request.collection) {
         return Ok(None);
     }
-    let outcome = run_request(site, alloc, &request)?;
+    let outcome = run_request(alloc, site, &request)?;
     Ok(Some(outcome.reply(alloc, request.closes, 0)?))
 }
 
@@ -69,8 +69,8 @@ fn updates_and_searches_are_answered(rt: HostRuntime) -> Result<(), Fail> {
     let mut site = site(alloc)?;
     let body = "[{\"id\":\"2\",\"n_i\":7},{\"id\":\"3\",\"n_i\":5}]";
     let updated = reply(
-        &mut site,
         alloc,
+        &mut site,
         Handler::Update,
         Some(("commit", "true")),
         body,
@@ -84,15 +84,15 @@ fn updates_and_searches_are_answered(rt: HostRuntime) -> Result<(), Fail> {
     );
     let pending = "[{\"id\":\"4\",\"n_i\":1}]";
     let uncommitted = reply(
-        &mut site,
         alloc,
+        &mut site,
         Handler::Update,
         Some(("commit", "yes")),
         pending,
     )?;
     assert!(rt; uncommitted.is_some());
     let expr = "search(c,q=\"*:*\",fl=\"id,n_i\",sort=\"n_i asc\")";
-    let found = reply(&mut site, alloc, Handler::Stream, Some(("expr", expr)), "")?;
+    let found = reply(alloc, &mut site, Handler::Stream, Some(("expr", expr)), "")?;
     assert!(rt;
         is_text(
             &found,
@@ -108,7 +108,7 @@ fn updates_and_searches_are_answered(rt: HostRuntime) -> Result<(), Fail> {
 fn refusals_are_told(rt: HostRuntime) -> Result<(), Fail> {
     let alloc = rt.alloc();
     let mut site = site(alloc)?;
-    let missing = reply(&mut site, alloc, Handler::Stream, None, "")?;
+    let missing = reply(alloc, &mut site, Handler::Stream, None, "")?;
     assert!(rt;
         is_text(
             &missing,
@@ -117,7 +117,7 @@ fn refusals_are_told(rt: HostRuntime) -> Result<(), Fail> {
          \"RESPONSE_TIME\":0}]}}",
         )
     );
-    let refused = reply(&mut site, alloc, Handler::Update, None, "{")?;
+    let refused = reply(alloc, &mut site, Handler::Update, None, "{")?;
     assert!(rt;
         is_text(
             &refused,
@@ -149,7 +149,7 @@ fn expressions_are_answered(rt: HostRuntime) -> Result<(), Fail> {
     ];
     for (expr, docs) in cases {
         let mut site = site(alloc)?;
-        let outcome = run_expression(&mut site, alloc, expr.as_bytes())?;
+        let outcome = run_expression(alloc, &mut site, expr.as_bytes())?;
         let body = outcome.body(alloc, 0)?;
         let wanted = format!(in alloc; "{{\"result-set\":{{\"docs\":[{docs}]}}}}")?;
         assert!(rt; body.as_slice() == wanted.as_bytes());
@@ -164,7 +164,7 @@ fn serve(alloc: Global, bytes: &str) -> Result<(SessionEnd, MemorySink), Memory>
     all.extend(bytes.as_bytes())?;
     let mut source = MemorySource::new(all, 7, Numbers::new(alloc));
     let mut sink = MemorySink::new(alloc, Numbers::new(alloc));
-    let served = serve_connection(&mut site, alloc, &mut source, &mut sink);
+    let served = serve_connection(alloc, &mut site, &mut source, &mut sink);
     Ok((served, sink))
 }
 

@@ -3,7 +3,7 @@ ghost use Rattle.std.specs.Prelude.{◌≡◌, ◌<◌, ◌||◌, IfOk, Ok};
 ghost use Rattle.topic_book.specs.Fitness.{shards_of};
 ghost use Rattle.exchange_rules.specs.Steps.{AreStorableWrites};
 ghost use Rattle.json_text.specs.Updates.{update_in};
-ghost use Rattle.stream_handler.specs.Requests.{Carried, IsBadBody, IsRefusal, full_text, update_course};
+ghost use Rattle.stream_handler.specs.Requests.{Carried, IsBadBody, IsRefusal, full_shard, full_text, update_course};
 
 use crate::Outcome;
 use exchange_rules::SiteFault;
@@ -21,20 +21,44 @@ fn full_text(alloc: Global, collection: &Text, shard: u16, stand: u64) -> Result
     Ok(Text::from_string(text))
 }
 
-// The answer to an update that was refused. Want of memory stays.
-fn refusal(alloc: Global, fault: &SiteFault) -> Result<Outcome, Memory>
-    ensures { IfOk result (IsRefusal fault.now) }
+/// A shard that is full, and how many writes of the update stand.
+#[derive(Drop)]
+pub(crate) struct FullShard {
+    collection: Text,
+    shard: u16,
+    stand: u64,
+}
+
+// The full shard that a refusal names, and none where memory was wanting; an update binds no topic. It
+// takes no memory, so neither can be told as the other.
+fn full_shard(fault: SiteFault) -> Option<FullShard>
+    ensures { result ≡ full_shard fault }
 {
     match fault {
         SiteFault::ShardFull {
             collection,
             shard,
             stand,
-        } => {
-            let msg = full_text(alloc, collection, *shard, *stand)?;
+        } => Some(FullShard {
+            collection,
+            shard,
+            stand,
+        }),
+        SiteFault::TopicBound { .. } | SiteFault::BookFull { .. } | SiteFault::OutOfMemory { .. } =>
+            None,
+    }
+}
+
+// The answer to an update that was refused. Want of memory stays.
+fn refusal(alloc: Global, fault: SiteFault) -> Result<Outcome, Memory>
+    ensures { IfOk result (IsRefusal fault) }
+{
+    match full_shard(fault) {
+        Some(full) => {
+            let msg = full_text(alloc, &full.collection, full.shard, full.stand)?;
             Ok(Outcome::Refused { code: 507, msg })
         }
-        SiteFault::OutOfMemory { .. } => Err(Memory::OutOfMemory),
+        None => Err(Memory::OutOfMemory),
     }
 }
 
@@ -47,8 +71,8 @@ fn is_asked(body: bool, beside: bool) -> bool
 
 // An update that was read, carried out.
 fn index<T: Turns>(
-    site: &mut T,
     alloc: Global,
+    site: &mut T,
     collection: &Text,
     update: Update,
     commit: bool,
@@ -62,7 +86,7 @@ fn index<T: Turns>(
     let commit = is_asked(update.commit, commit);
     match index_over(site, alloc, collection, update.writes, commit) {
         Ok(_) => Ok(Outcome::Indexed),
-        Err(fault) => refusal(alloc, &fault),
+        Err(fault) => refusal(alloc, fault),
     }
 }
 
@@ -79,8 +103,8 @@ fn bad_body(alloc: Global, fault: &JsonFault) -> Result<Outcome, Memory>
 
 /// The update that a body asks for, carried out at the site's collection, or refused.
 pub(crate) fn run_update<T: Turns>(
-    site: &mut T,
     alloc: Global,
+    site: &mut T,
     collection: &Text,
     commit: bool,
     body: &[u8],
@@ -91,7 +115,7 @@ pub(crate) fn run_update<T: Turns>(
     ensures layout { T.layout site.new ≡ T.layout site.old }
 {
     match read_update(alloc, body) {
-        Ok(update) => index(site, alloc, collection, update, commit),
+        Ok(update) => index(alloc, site, collection, update, commit),
         Err(fault) => bad_body(alloc, &fault),
     }
 }

@@ -1,20 +1,27 @@
-use Rattle.std.proofs.Common.{◌≡◌, ◌++◌, drop, map}
-use Rattle.expr_plan.specs.ExprTree.{inputs_of}
-use Rattle.expr_plan.specs.ExprViews.{expr_tree}
-use Rattle.expr_plan.specs.Lists.{lists_of, AreAllSorted}
+use Rattle.std.proofs.Common.{◌≡◌, ◌+◌, ◌*◌, ◌++◌, drop}
+use Rattle.expr_types.specs.ExprTree.{inputs_in, inputs_of, height}
+use Rattle.expr_types.specs.ExprViews.{expr_tree}
+use Rattle.expr_types.specs.Lists.{lists_of, AreAllSorted}
 use Rattle.source_streams.specs.Cuts.{documents_of}
 use Rattle.stream_engine.specs.Flows.{rests_of}
 use Rattle.stream_engine.proofs.opening.+opening.Given as goal
 
 -- the inputs that are still to be opened are sorted, and give what the streams don't
-abbrev pub invariant-open_all-loop-input : goal.invariant-open_all-loop-input
-invariant-open_all-loop-input l = record {
+abbrev pub invariant-open_inputs-loop-k : goal.invariant-open_inputs-loop-k
+invariant-open_inputs-loop-k l = record {
   sorted :
       AreAllSorted (λ c. documents_of c l.cut)
-      (inputs_of (map expr_tree (drop l.input-index l.inputs)));
+      (inputs_of (drop l.k (inputs_in (expr_tree l.expr))));
   same :
       rests_of l.streams.items
       ++ lists_of (λ c. documents_of c l.cut)
-      (inputs_of (map expr_tree (drop l.input-index l.inputs)))
-      ≡ lists_of (λ c. documents_of c l.cut) (inputs_of (map expr_tree l.inputs));
+      (inputs_of (drop l.k (inputs_in (expr_tree l.expr))))
+      ≡ lists_of (λ c. documents_of c l.cut) (inputs_of (inputs_in (expr_tree l.expr)));
 }
+
+-- an input is lower than its expression
+abbrev pub decreases-open_expr : goal.decreases-open_expr
+decreases-open_expr l = height (expr_tree l.expr.now) * 2 + 1
+
+abbrev pub decreases-open_inputs : goal.decreases-open_inputs
+decreases-open_inputs l = height (expr_tree l.expr.now) * 2

@@ -1,6 +1,7 @@
 use Rattle.std.proofs.Common.{ap}
 use Rattle.stream_handler.specs.Sessions.{record_of}
 use Rattle.stream_handler.proofs.ConnectionLemmas.{record_is, session_of}
+use Rattle.stream_handler.proofs.TellingLemmas.{session_tells}
 use Rattle.stream_handler.proofs.connection.serve_connection.Goals as goal
 
 pub returns-clause-session : goal.returns-clause-session
@@ -12,3 +13,6 @@ returns-clause-session g c = (
       c.take_record-2.ensures.marks c.take_record-2.ensures.own) c.serve_all-exchanges.ensures.served,
   ap record_of c.take_record-2.ensures.rest,
 )
+
+pub returns-clause-told : goal.returns-clause-told
+returns-clause-told g c = session_tells (returns-clause-session g c).1.session

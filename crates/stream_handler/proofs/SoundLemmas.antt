@@ -1,0 +1,134 @@
+-- What makes an exchange sound, and what sound exchanges tell of the writer's own steps.
+use Rattle.std.proofs.Common.{◌≡◌, ℕ, Bool, List, [], ◌∷◌, length, sym, ◌∙◌, subst}
+use Rattle.std.specs.Prelude.{◌||◌, Option, Some, None, Result, Ok, Err, codes, nat_lt}
+use Rattle.tuple_values.specs.Document.{ByteList}
+use Rattle.json_text.specs.declared.fault.JsonFault.{JsonFault}
+use Rattle.json_text.specs.declared.update.Update as body
+use Rattle.shard_versions.specs.declared.cut.CutMark.{CutMark}
+use Rattle.shard_versions.specs.declared.cut.OwnMark.{OwnMark}
+use Rattle.exchange_rules.specs.Acts.{Act, marks_of, own_of}
+use Rattle.exchange_rules.specs.Cells.{Log}
+use Rattle.exchange_rules.specs.Courses.{ends}
+use Rattle.exchange_rules.specs.Following.{Follows, Writer, Answers, cleared, counts}
+use Rattle.exchange_rules.specs.Looking.{LooksFirst}
+use Rattle.exchange_rules.specs.Rows.{Layout, cut_course, finish_course, index_course, shares_of, writes_course}
+use Rattle.exchange_rules.specs.Told.{AreTold, AreLookedAt}
+use Rattle.exchange_rules.proofs.CountLemmas.{IsCounted, follows_counted}
+use Rattle.exchange_rules.proofs.LookingLemmas.{cut_first, either, finish_first, ok_first, then_first, writes_first}
+use Rattle.exchange_rules.proofs.ToldLemmas.{counted_join, counted_none, follows_looked, follows_told}
+use Rattle.form_request.specs.Params.{first_value}
+use Rattle.form_request.specs.declared.request.Handler.{Handler}
+use Rattle.form_request.specs.declared.request.Handler.TheVariants.{Stream, Update}
+use Rattle.form_request.specs.declared.request.Request.{Request}
+use Rattle.json_text.specs.Updates.{update_in}
+use Rattle.expr_types.specs.ExprTree.{ExprTree}
+use Rattle.expr_check.specs.Reads.{collections_of}
+use Rattle.topic_book.specs.Fitness.{shards_of}
+use Rattle.stream_handler.specs.Exchanges.{Answer, AreSound, IsAnswered, IsSound, exchanges_of, owns_of}
+use Rattle.stream_handler.specs.Expressions.{expression_of}
+use Rattle.stream_handler.specs.Outcomes.{reply_of}
+use Rattle.stream_handler.specs.Refusals.{refusal}
+use Rattle.stream_handler.specs.Requests.{RequestsLookFirst, handled, is_true, plain_course, request_course, stream_course, update_course}
+use Rattle.stream_handler.specs.declared.exchange.Answered.{Answered}
+use Rattle.stream_handler.specs.declared.exchange.Exchange.{Exchange}
+use Rattle.stream_handler.specs.declared.outcome.Outcome.{Outcome}
+
+-- an expression looks first
+plain_first : (l : Layout) (read : Result ExprTree ByteList) → LooksFirst None (plain_course l read)
+plain_first l (Err text) = tt
+plain_first l (Ok e) =
+    then_first None (cut_course l.names [] (collections_of e)) _
+    (cut_first l.names [] (collections_of e)) (λ cut. tt)
+
+-- so does one in a parameter
+stream_first : (l : Layout) (given : Option ByteList) → LooksFirst None (stream_course l given)
+stream_first l None = tt
+stream_first l (Some bytes) = plain_first l (expression_of l.names bytes)
+
+-- so does an update
+update_first : (l : Layout) (collection : ByteList) (commit : Bool)
+    (read : Result body.Update JsonFault) → LooksFirst None (update_course l collection commit read)
+update_first l collection commit (Err fault) = tt
+update_first l collection commit (Ok update) =
+    let all = update.commit || commit in
+    let share = shares_of l collection update.writes in
+    let first : LooksFirst None (index_course l collection update.writes all) =
+    ok_first (writes_course l collection share all) _ (writes_first l collection share all)
+    (λ _. ok_first (finish_course l collection share (length update.writes) all) _
+    (finish_first l collection share (length update.writes) all) (λ _. tt)) in
+    then_first None (index_course l collection update.writes all) _ first (λ r. tt)
+
+-- so does each handler
+handled_first : (l : Layout) (r : Request) (h : Handler) → LooksFirst None (handled l r h)
+handled_first l r Stream = stream_first l (first_value (codes "expr") r.params)
+handled_first l r Update =
+    update_first l r.collection (is_true (first_value (codes "commit") r.params)) (update_in r.body)
+
+-- so does each request
+pub request_first : (l : Layout) (r : Request) → LooksFirst None (request_course l r)
+request_first l r =
+    either None (nat_lt 0 (shards_of l.names r.collection)) (handled l r r.handler)
+    (ends (refusal 404)) (handled_first l r r.handler) tt
+
+-- and each expression
+pub requests_first : RequestsLookFirst
+requests_first = record { request = request_first; expression = plain_first }
+
+-- acts that follow the whole course of a request make its exchange sound
+pub sound_of : (l : Layout) (me : ℕ) (seen : List Log) (had : List ℕ) (r : Request) (x : Exchange)
+    (o : Outcome) (end : List ℕ) (acts : List Act) → x.marks ≡ marks_of acts → x.own ≡ own_of acts
+    → x.millis ≡ 0 → Follows me seen had (request_course l r) acts (ends o) end
+    → IsSound me seen had (request_course l r) x o end
+sound_of l me seen had r x o end acts marks own now f =
+    let p = request_course l r in
+    let looked : AreLookedAt (marks_of acts) (own_of acts) =
+    (follows_looked me seen had p acts (ends o) end (request_first l r) f).1 in
+    record {
+      acts = acts;
+      marks = marks;
+      own = own;
+      followed = f;
+      told = subst (AreTold me seen had end) (sym own)
+          (follows_told me seen had p acts (ends o) end f);
+      looked_at = subst (λ (m : List CutMark). AreLookedAt m x.own) (sym marks)
+          (subst (AreLookedAt (marks_of acts)) (sym own) looked);
+      at_once = now;
+    }
+
+-- what the writer appended in sound exchanges is just their own steps
+pub sound_counted : (l : Layout) (me : ℕ) (seen : List Log) (had end : List ℕ)
+    (answers : List Answer) (c : ℕ) → AreSound l me seen had answers end
+    → IsCounted me seen had end (owns_of (exchanges_of answers)) c
+sound_counted l me seen had end [] c i =
+    subst (λ (e : List ℕ). IsCounted me seen had e [] c) (sym i) (counted_none me seen had c)
+sound_counted l me seen had end (a ∷ answers) c i =
+    let p = request_course l a.message.request in
+    let one : IsCounted me seen had i.0 a.exchange.own c =
+    subst (λ (own : List OwnMark). IsCounted me seen had i.0 own c) (sym i.1.own)
+    (follows_counted me seen had p i.1.acts (ends a.outcome) i.0 c i.1.followed) in
+    counted_join me seen had i.0 end a.exchange.own (owns_of (exchanges_of answers)) c one
+    (sound_counted l me seen i.0 end answers c i.2)
+
+-- a request that was carried out with a record that began empty is answered, and its exchange is
+-- sound
+pub answered_of : {l m : Layout} {w u end new : Writer} {r : Request} {a : Answered} {o : Outcome}
+    → u ≡ cleared w → m ≡ l → Answers u end (request_course m r) o → new ≡ cleared end
+    → a.exchange.marks ≡ end.marks → a.exchange.own ≡ end.own
+    → a.reply ≡ reply_of r.closes a.exchange.millis o → a.exchange.millis ≡ 0
+    → IsAnswered l w new r a
+answered_of {l} {m} {w} {u} {end} {new} {r} {a} {o} fresh same went rest marks own reply now =
+    let k : Answers (cleared w) end (request_course l r) o =
+    subst (λ (x : Layout). Answers (cleared w) end (request_course x r) o) same
+    (subst (λ (x : Writer). Answers x end (request_course m r) o) fresh went) in
+    record {
+      outcome = o;
+      end = end;
+      carried = k;
+      rest = rest;
+      marks = marks;
+      own = own;
+      reply = reply;
+      at_once = now;
+      sound = sound_of l w.me end.seen (counts w.seen) r a.exchange o (counts end.seen) k.acts
+          (marks ∙ k.marks) (own ∙ k.own) now k.followed;
+    }
