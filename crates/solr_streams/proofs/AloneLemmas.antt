@@ -14,7 +14,7 @@ use Rattle.exchange_rules.specs.Following.{Answers, counts}
 use Rattle.exchange_rules.specs.Own.{IsAlone}
 use Rattle.exchange_rules.specs.Rows.{Layout, part_of, cut_shards, cut_course}
 use Rattle.exchange_rules.proofs.AloneLemmas.{answers_alone}
-use Rattle.expr_plan.specs.ExprTree.{ExprTree}
+use Rattle.expr_types.specs.ExprTree.{ExprTree}
 use Rattle.stream_site.specs.Plains.{Plain, empty_site, layout_of, writer_of}
 use Rattle.expr_check.specs.Reads.{collections_of}
 use Rattle.stream_handler.specs.Expressions.{expression_of, list_over}

@@ -7,7 +7,7 @@ use Rattle.topic_book.specs.Fitness.{shards_of}
 use Rattle.exchange_rules.specs.Cells.{Log}
 use Rattle.exchange_rules.specs.Courses.{run_alone}
 use Rattle.exchange_rules.specs.Rows.{Layout, part_of}
-use Rattle.expr_plan.specs.ExprTree.{ExprTree}
+use Rattle.expr_types.specs.ExprTree.{ExprTree}
 use Rattle.json_text.specs.Replies.{body}
 use Rattle.stream_site.specs.Plains.{empty_site, layout_of, writer_of}
 use Rattle.expr_check.specs.Reads.{collections_of}

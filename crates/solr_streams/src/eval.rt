@@ -36,7 +36,7 @@ fn evaluate(alloc: Global, names: Names, bytes: &[u8]) -> Result<Outcome, Memory
     ensures meant { IfOk result (λ outcome. outcome ≡ outcome_of (meaning names bytes.now)) }
 {
     let mut site = PlainSite::start(alloc, names, SHARD_LIMIT)?;
-    let outcome = run_expression(&mut site, alloc, bytes)?;
+    let outcome = run_expression(alloc, &mut site, bytes)?;
 
     // Its contract says that the site had no other writer.
     let _ = site.names();

@@ -14,26 +14,29 @@ mod script;
 mod script_tests;
 #[cfg(test)]
 mod tests;
+mod words;
 
 use io_edge::{NoGate, ReaderSource, WriterSink};
 use run::run_words;
 use std::process::ExitCode;
-use std::{env, io};
-use tuple_values::{Text, Words};
+use words::read_words;
 
-fn main(rt: HostRuntime) -> io::Result<ExitCode> {
-    let mut words = Vec::new(rt.alloc());
-    for word in env::args(&rt)?.skip(1) {
-        words.push(Text::from_string(word))?;
-    }
-    let status = run_words(
-        &rt,
-        rt.alloc(),
-        &Words::from_vec(words),
-        &mut ReaderSource::new(rt.stdin()),
-        &mut WriterSink::new(rt.stdout()),
-        &mut WriterSink::new(rt.stderr()),
-        &NoGate,
-    );
-    Ok(ExitCode::from(status))
+fn main(rt: HostRuntime) -> ExitCode {
+    let mut errors = WriterSink::new(rt.stderr());
+    let status = match read_words(&rt) {
+        Ok(words) => run_words(
+            &rt,
+            rt.alloc(),
+            &words,
+            &mut ReaderSource::new(rt.stdin()),
+            &mut WriterSink::new(rt.stdout()),
+            &mut errors,
+            &NoGate,
+        ),
+        Err(ending) => {
+            ending.say(&mut errors);
+            ending.status()
+        }
+    };
+    ExitCode::from(status)
 }

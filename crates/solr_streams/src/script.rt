@@ -31,8 +31,8 @@ fn ending_of(end: End) -> Ending
 
 // Serves the messages of input until it is over.
 fn serve<I: Source, O: Sink>(
-    site: &mut PlainSite,
     alloc: Global,
+    site: &mut PlainSite,
     requests: &mut Requests,
     input: &mut I,
     output: &mut O,
@@ -45,7 +45,7 @@ fn serve<I: Source, O: Sink>(
         (O.faults output.new)) (writer_of site.old) (writer_of site.new) result }
 {
     for _ in 0..u64::MAX {
-        match serve_one(site, alloc, requests, input, output) {
+        match serve_one(alloc, site, requests, input, output) {
             OneEnd::Served(_) => {}
             OneEnd::Last(_) => return End::Closed,
             OneEnd::Over { end, .. } => return end,
@@ -75,7 +75,7 @@ pub fn script<I: Source, O: Sink>(
         return Ending::OutOfMemory;
     };
     let mut requests = Requests::begin(alloc);
-    let end = serve(&mut site, alloc, &mut requests, input, output);
+    let end = serve(alloc, &mut site, &mut requests, input, output);
 
     // Its contract says that the site had no other writer.
     let _ = site.names();
