@@ -294,3 +294,10 @@ fn an_entry_is_copied(rt: HostRuntime) -> Result<(), Fail> {
     }
     Ok(())
 }
+
+fn is_shared<T: Sync>() {}
+
+#[test]
+fn a_snapshot_is_read_by_other_threads(_rt: HostRuntime) {
+    is_shared::<Snapshot>();
+}
