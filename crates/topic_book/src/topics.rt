@@ -1,5 +1,5 @@
 // The topics that are bound.
-ghost use Rattle.std.specs.Prelude.{◌≡◌, ◌<◌, ◌≤◌, option_copied, length, vec_len, vec_capacity, ◌+◌};
+ghost use Rattle.std.specs.Prelude.{◌≡◌, ◌<◌, ◌≤◌, max, option_copied, length, vec_len, vec_capacity, ◌+◌};
 ghost use Rattle.topic_book.specs.Raises.{raised, topic_of, place_of, raised_in, topics_with, exceeds};
 
 use crate::alike::same_key;
@@ -40,6 +40,13 @@ fn place_of(topics: &[Topic], key: &TopicKey) -> usize
     topics.len()
 }
 
+/// The number, raised to another one where that is greater.
+fn raised_to(number: u64, upto: u64) -> u64
+    ensures { result ≡ max number upto }
+{
+    number.max(upto)
+}
+
 /// The numbers, each raised to the one at its place.
 fn raised(numbers: Versions, upto: &[u64]) -> Versions
     ensures { result ≡ raised numbers upto.now }
@@ -47,7 +54,7 @@ fn raised(numbers: Versions, upto: &[u64]) -> Versions
     let mut all = numbers.into_vec();
     let count = all.len().min(upto.len());
     for place in 0..count {
-        all[place] = all[place].max(upto[place]);
+        all[place] = raised_to(all[place], upto[place]);
     }
     Versions::from_vec(all)
 }

@@ -7,8 +7,8 @@ pub loop-place-preserved : goal.loop-place-preserved
 loop-place-preserved c =
     let ns : List ℕ = c.into_vec-all.result.items in
     let short : c.loop-place.place < length ns = omega (arith, c.into_vec-all.result.ok.0) in
-    raise-goes c.loop-place.place ns c.args.upto.now c.loop-place.all.items c.index.result.now c.max.result
-    short (omega arith) c.loop-place.invariant c.index.ensures c.max.ensures
+    raise-goes c.loop-place.place ns c.args.upto.now c.loop-place.all.items c.index.result.now c.raised_to.result
+    short (omega arith) c.loop-place.invariant c.index.ensures c.raised_to.ensures
 
 pub returns : goal.returns
 returns c =
