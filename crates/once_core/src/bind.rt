@@ -49,8 +49,8 @@ fn is_fit_destination(names: &[NameShards], src: &Text, dest: &Option<Text>) -> 
     }
 }
 
-// Whether the topic's collections are known, with a number for each shard of its source.
-fn is_on_collections(names: &[NameShards], key: &TopicKey, binding: &Binding) -> bool
+/// Whether the topic's collections are known, with a number for each shard of its source.
+pub fn is_on_collections(names: &[NameShards], key: &TopicKey, binding: &Binding) -> bool
     ensures { Decides result (IsOnCollections names.now key.now binding.now) }
 {
     let shards = shards_of(names, binding.src.as_str());
@@ -60,7 +60,8 @@ fn is_on_collections(names: &[NameShards], key: &TopicKey, binding: &Binding) ->
         && binding.init.len() == usize::from(shards)
 }
 
-fn is_readable(alloc: Global, text: &Text) -> Result<bool, Memory>
+/// Whether the text is a query.
+pub fn is_readable(alloc: Global, text: &Text) -> Result<bool, Memory>
     ensures { IfOk result (λ readable. Decides readable (IsReadable text.now)) }
 {
     match read_query(alloc, text.as_str()) {

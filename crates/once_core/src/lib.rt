@@ -20,6 +20,7 @@ mod turn;
 mod world;
 mod writes;
 
+pub use bind::{is_on_collections, is_readable};
 pub use event::{Event, Events};
 pub use law::{delivery_holds, law_holds};
 pub use replay::{Replay, replay_events};
