@@ -3,7 +3,7 @@ use Rattle.std.specs.Prelude.{ℕ, zero, suc, ◌+◌, ◌≡◌, ◌≢◌, ◌
 use Rattle.std.specs.List.{AllByRecursion}
 use Rattle.shard_versions.specs.declared.cut.CutMark.{CutMark}
 use Rattle.shard_versions.specs.declared.cut.OwnMark.{OwnMark}
-use Rattle.exchange_rules.specs.Cells.{Log, Deed, author_of, signed}
+use Rattle.exchange_rules.specs.Cells.{Log, Deed, author_of, signed_behind}
 
 -- a look, by its mark; a step, by its own mark
 pub data Act : Type 0 where
@@ -54,7 +54,8 @@ pub record IsOwn (me : ℕ) (seen : List Log) (had : List ℕ) (cell : ℕ) (ste
   pub from : o.from ≡ get_or had cell 0
   pub count : o.count ≡ length step
   pub within : o.from + o.count ≤ length (get_or seen cell [])
-  pub stands : at_own seen o ≡ signed me step
+  pub stands : at_own seen o
+      ≡ signed_behind me (take o.from (get_or seen o.cell [])) step
 
 -- how many entries of each cell the writer has seen after the act
 abbrev pub had_after : List ℕ → Act → List ℕ

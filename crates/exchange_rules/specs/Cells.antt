@@ -46,6 +46,10 @@ deed_of (Store by key upto) = store key upto
 abbrev pub signed : ℕ → List Deed → Log
 signed me step = map (signed_by me) step
 
+-- the entries that a writer's step appends to this log
+abbrev pub signed_behind : ℕ → Log → List Deed → Log
+signed_behind me log step = signed me step
+
 -- the log of a shard's cell
 abbrev pub log_of : History → Log
 log_of h = map logged.Shard h

@@ -1,6 +1,6 @@
 -- What a request does, as one small program of looks at cells and of steps that it appends (own).
 use Rattle.std.specs.Prelude.{ℕ, List, [], ◌++◌, get_or, set, Result, Ok, Err}
-use Rattle.exchange_rules.specs.Cells.{Log, Deed, signed}
+use Rattle.exchange_rules.specs.Cells.{Log, Deed, signed_behind}
 
 -- a course ends with its answer, or looks at a cell and goes on by what it sees, or appends a step
 -- to a cell and goes on
@@ -28,7 +28,8 @@ and_ok course next = and_then course (unless_refused next)
 
 -- the logs with the step behind the cell's, under this writer's number
 abbrev pub appended : ℕ → List Log → ℕ → List Deed → List Log
-appended me logs cell step = set logs cell (get_or logs cell [] ++ signed me step)
+appended me logs cell step =
+    set logs cell (get_or logs cell [] ++ signed_behind me (get_or logs cell []) step)
 
 -- what the course leaves in the logs and answers where nobody else writes: each look is at the
 -- whole log

@@ -1,7 +1,10 @@
 // The refusals of a site's calls.
+ghost use Rattle.std.specs.Prelude.{◌≡◌};
+ghost use Rattle.exchange_rules.specs.declared.fault.SiteFault.TheVariants.{OutOfMemory};
+
 use thiserror::Error;
 use topic_book::Binding;
-use tuple_values::Text;
+use tuple_values::{Memory, Text};
 
 /// Why a call of a site was refused. `stand` counts the writes of this call that were appended
 /// before; they stay.
@@ -29,4 +32,13 @@ pub enum SiteFault {
     OutOfMemory {
         stand: u64,
     },
+}
+
+/// Where memory is wanting before the call has appended a write.
+impl From<Memory> for SiteFault {
+    ghost from_gives = { λ _ fault. fault ≡ OutOfMemory 0 };
+
+    fn from(_: Memory) -> Self {
+        SiteFault::OutOfMemory { stand: 0 }
+    }
 }
