@@ -16,6 +16,8 @@ use Rattle.exchange_rules.specs.Calls.{Stands, Completed}
 use Rattle.exchange_rules.specs.Rows.{Layout, shown_of, part_of, cut_shards, cut_course}
 use Rattle.exchange_rules.specs.declared.fault.SiteFault.{SiteFault}
 use Rattle.exchange_rules.proofs.PrimitiveLemmas.{looks_from}
+use Rattle.stream_site.specs.Spots.{IsSpot}
+use Rattle.stream_site.specs.declared.place.Spot.{Spot}
 use Rattle.stream_site.proofs.PlaceLemmas.{from_item}
 
 -- the part that a look shows
@@ -32,17 +34,21 @@ part_looked old mid c shard cell cut cut' s lt l e f =
     subst (λ x. Stands old mid look (ends x) 0) (sym same)
     (looks_from old mid cell (λ log. ends (cut ++ part_of c shard (history_in log) ∷ [])) lt l)
 
--- what was done at a cell is the course's look at its shard
-pub part_here : (old new : Writer) (l m : Layout) (c : ByteList) (s cell : ℕ)
-    (cut : List CutPart) (r : Result (List CutPart) SiteFault) → m ≡ l → cell ≡ cell_of m.names c s
-    → Completed old new (looks cell (λ log. ends (cut ++ part_of c s (history_in log) ∷ []))) r
+-- what was done where a call stands is the course's look at its shard
+pub part_here : (old new : Writer) (l m : Layout) (c : ByteList) (s stand : ℕ) (at : Spot)
+    (cut : List CutPart) (r : Result (List CutPart) SiteFault) → m ≡ l
+    → IsSpot m.names c s stand at
+    → Completed old new (looks at.cell (λ log. ends
+    (cut ++ part_of at.collection.now at.shard (history_in log) ∷ []))) r
     → Completed old new
     (looks (cell_of l.names c s) (λ log. ends (cut ++ part_of c s (history_in log) ∷ []))) r
-part_here old new l m c s cell cut r e f p =
-    let p' = subst (λ x. Completed old new
-    (looks x (λ log. ends (cut ++ part_of c s (history_in log) ∷ []))) r) f p in
-    subst (λ (x : Layout). Completed old new
-    (looks (cell_of x.names c s) (λ log. ends (cut ++ part_of c s (history_in log) ∷ []))) r) e p'
+part_here old new l m c s stand at cut r e i p =
+    let P : ℕ → ByteList → ℕ → Type 0 = λ cell of n. Completed old new
+    (looks cell (λ log. ends (cut ++ part_of of n (history_in log) ∷ []))) r in
+    let a = subst (λ x. P x at.collection.now at.shard) i.cell_is p in
+    let b = subst (λ x. P (cell_of m.names c s) x at.shard) i.collection_is a in
+    let d = subst (P (cell_of m.names c s) c) i.shard_is b in
+    subst (λ (x : Layout). P (cell_of x.names c s) c s) e d
 
 -- a collection's part, as the writer finds it now
 pub collection_here : (old new : Writer) (l m : Layout) (c : ByteList) (cut : List CutPart)

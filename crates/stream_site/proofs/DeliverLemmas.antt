@@ -1,6 +1,5 @@
 -- A delivery to a site of one writer.
 use Rattle.std.proofs.Common.{◌≡◌, ℕ, ◌<◌, true, false, List, [], ◌∷◌, ◌++◌, length, get_or, map, refl, sym, ap, ◌∙◌, subst, arith}
-use Rattle.std.proofs.lemmas.List.{length-map}
 use Rattle.std.specs.List.{AllByRecursion}
 use Rattle.shard_versions.specs.Deliveries.{admitted, mark_by}
 use Rattle.shard_versions.specs.Fitness.{is_storable_kind, AreStorable}
@@ -12,7 +11,6 @@ use Rattle.shard_versions.proofs.ListLemmas.{each_append}
 use Rattle.topic_book.specs.Cells.{cells_in}
 use Rattle.exchange_rules.specs.Cells.{history_in, write}
 use Rattle.exchange_rules.specs.Deliveries.{admitted_kinds}
-use Rattle.exchange_rules.specs.Following.{Writer}
 use Rattle.exchange_rules.specs.Primitives.{delivered, made}
 use Rattle.exchange_rules.specs.Rows.{HasCell}
 use Rattle.exchange_rules.specs.Steps.{AreBy, closed, is_full, is_over, kinds_of}

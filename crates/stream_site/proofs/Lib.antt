@@ -1,4 +1,5 @@
 pub mod PlaceLemmas
+pub mod SpotLemmas
 pub mod ShareLemmas
 pub mod TestLemmas
 pub mod CloseLemmas
@@ -8,6 +9,9 @@ pub mod UpdateLemmas
 pub mod CutLemmas
 pub mod EmptyLemmas
 pub mod PlainLemmas
+pub mod PlainLookLemmas
+pub mod PlainBookLemmas
+pub mod PlainOwnLemmas
 pub mod WriteLemmas
 pub mod MayLemmas
 pub mod SendLemmas

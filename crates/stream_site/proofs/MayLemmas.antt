@@ -1,5 +1,5 @@
 -- What may be appended, step by step.
-use Rattle.std.proofs.Common.{◌≡◌, ℕ, ◌+◌, ◌<◌, Bool, true, false, List, [], ◌∷◌, ◌++◌, length, get_or, set, sym, ap, subst, ◌∙◌, arith, length-append, if◌then◌else◌}
+use Rattle.std.proofs.Common.{◌≡◌, ℕ, ◌<◌, Bool, true, false, List, [], ◌∷◌, ◌++◌, length, get_or, sym, ap, subst, ◌∙◌, arith, length-append, if◌then◌else◌}
 use Rattle.std.specs.Prelude.{Result}
 use Rattle.std.proofs.lemmas.List.{length-set}
 use Rattle.tuple_values.specs.Document.{ByteList}
@@ -19,13 +19,15 @@ use Rattle.exchange_rules.specs.declared.fault.SiteFault.{SiteFault}
 use Rattle.site_laws.specs.Duties.{IsFitStep, MayWrite}
 use Rattle.site_laws.proofs.WriteLemmas.{may-write, closed-fit, mark-fit, routed-fit}
 use Rattle.stream_site.specs.Shares.{AreShares}
+use Rattle.stream_site.specs.Spots.{IsSpot}
+use Rattle.stream_site.specs.declared.place.Spot.{Spot}
 
--- what may stand at a shard of a collection may where the writer finds it
-pub fit_here : (l m : Layout) (c : ByteList) (s cell : ℕ) (step share : List Entry) → m ≡ l
-    → cell ≡ cell_of m.names c s → step ≡ share → IsFitStep l.names (cell_of l.names c s) share
-    → IsFitStep m.names cell step
-fit_here l m c s cell step share e f g may =
-    subst (λ x. IsFitStep m.names x step) (sym f)
+-- what may stand at a shard of a collection may where a call stands there
+pub fit_here : (l m : Layout) (c : ByteList) (s stand : ℕ) (at : Spot) (step share : List Entry)
+    → m ≡ l → IsSpot m.names c s stand at → step ≡ share
+    → IsFitStep l.names (cell_of l.names c s) share → IsFitStep m.names at.cell step
+fit_here l m c s stand at step share e i g may =
+    subst (λ x. IsFitStep m.names x step) (sym i.cell_is)
     (subst (λ (x : Layout). IsFitStep x.names (cell_of x.names c s) step) (sym e)
     (subst (IsFitStep l.names (cell_of l.names c s)) (sym g) may))
 

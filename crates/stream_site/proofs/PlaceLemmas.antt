@@ -22,16 +22,7 @@ choose : {X : Type 0} (b c : Bool) (x y : X) → b ≡ c
     → (if b then x else y) ≡ (if c then x else y)
 choose b c x y e = ap (λ z. if z then x else y) e
 
--- a collection is the one of this name, or one behind it
-pub shards_here : (names : List NameShards) (c : ByteList) (i : ℕ) (n : NameShards) (b : Bool)
-    → i < length names → n ≡ get_or names i n → bytes_eq n.name c ≡ b
-    → shards_of (drop i names) c ≡ (if b then n.shards else shards_of (drop (i + 1) names) c)
-unfolding shards_of
-shards_here names c i n b lt e h =
-    ap (λ x. shards_of x c) (from_item names i n lt e)
-    ∙ choose (bytes_eq n.name c) b n.shards (shards_of (drop (i + 1) names) c) h
-
--- so is its first cell
+-- the first cell of a collection is that of the one of this name, or of one behind it
 pub cell_here : (names : List NameShards) (c : ByteList) (i : ℕ) (n : NameShards) (b : Bool)
     → i < length names → n ≡ get_or names i n → bytes_eq n.name c ≡ b
     → cell_of (drop i names) c 0 ≡ (if b then 0 else n.shards + cell_of (drop (i + 1) names) c 0)
@@ -46,13 +37,7 @@ pub cells_here : (names : List NameShards) (i : ℕ) (n : NameShards) → i < le
 unfolding cells_in
 cells_here names i n lt e = ap cells_in (from_item names i n lt e)
 
--- no collection is behind the last one
-pub shards_end : (names : List NameShards) (c : ByteList) (i : ℕ) → length names ≤ i
-    → shards_of (drop i names) c ≡ 0
-unfolding shards_of
-shards_end names c i le = ap (λ x. shards_of x c) (drop_all i names le)
-
--- and no cell
+-- no cell is behind the last collection
 pub cell_end : (names : List NameShards) (c : ByteList) (i : ℕ) → length names ≤ i
     → cell_of (drop i names) c 0 ≡ 0
 unfolding cell_of

@@ -1,6 +1,6 @@
 -- Deliveries at one shard after another, as a call makes them.
-use Rattle.std.proofs.Common.{◌≡◌, ℕ, zero, suc, ◌+◌, ◌-◌, ◌^◌, ◌<◌, ◌≤◌, Bool, true, false, List, [], ◌∷◌, ◌++◌, length, get_or, map, refl, sym, ap, ◌∙◌, subst, arith, if◌then◌else◌}
-use Rattle.std.specs.Prelude.{filter, Result, Ok, Err, IfOk}
+use Rattle.std.proofs.Common.{◌≡◌, ℕ, zero, suc, ◌+◌, ◌-◌, ◌^◌, ◌<◌, ◌≤◌, Bool, true, false, List, [], ◌∷◌, length, get_or, map, refl, sym, ap, ◌∙◌, subst, arith, if◌then◌else◌}
+use Rattle.std.specs.Prelude.{Result, Ok, Err}
 use Rattle.std.proofs.lemmas.List.{length-map}
 use Rattle.tuple_values.specs.Document.{ByteList}
 use Rattle.tuple_values.specs.declared.names.NameShards.{NameShards}
@@ -9,7 +9,7 @@ use Rattle.tuple_values.specs.declared.write.Write.TheVariants as write
 use Rattle.shard_versions.specs.Fitness.{is_routed}
 use Rattle.shard_versions.specs.declared.entry.Entry.{Entry}
 use Rattle.shard_versions.specs.declared.entry.Kind.{Kind}
-use Rattle.topic_book.specs.Cells.{cells_in, cell_of}
+use Rattle.topic_book.specs.Cells.{cell_of}
 use Rattle.topic_book.specs.Fitness.{shards_of}
 use Rattle.exchange_rules.specs.Calls.{Stands, Refused, PassedSent, Answered}
 use Rattle.exchange_rules.specs.Cells.{Log, history_in}
@@ -18,11 +18,12 @@ use Rattle.exchange_rules.specs.Deliveries.{admitted_kinds, send_admitted, send_
 use Rattle.exchange_rules.specs.Following.{Grows, Writer}
 use Rattle.exchange_rules.specs.Primitives.{LooksAt}
 use Rattle.exchange_rules.specs.Rows.{Layout, length_below}
-use Rattle.exchange_rules.specs.Steps.{entries_by, kind_of, kinds_of, routed}
+use Rattle.exchange_rules.specs.Steps.{kind_of, kinds_of, routed}
 use Rattle.exchange_rules.specs.declared.batch.BatchItem.{BatchItem}
 use Rattle.exchange_rules.specs.declared.batch.Sent as sent
 use Rattle.exchange_rules.specs.declared.fault.SiteFault.{SiteFault}
 use Rattle.exchange_rules.specs.declared.fault.SiteFault.TheVariants.{ShardFull}
+use Rattle.exchange_rules.proofs.DeliveryLemmas.{sends_refused, sends_stand}
 use Rattle.exchange_rules.proofs.CellLemmas.{cell_of-within}
 use Rattle.exchange_rules.proofs.GrowthLemmas.{grows_at, grows_join, grows_length, grows_set}
 use Rattle.exchange_rules.proofs.PrimitiveLemmas.{looks_from}
@@ -30,36 +31,59 @@ use Rattle.exchange_rules.proofs.RoutingLemmas.{length_below-le, length_below-ro
 use Rattle.exchange_rules.proofs.StandLemmas.{refused_on, refused_then, stands_none, stands_ok, stands_on}
 use Rattle.exchange_rules.proofs.StepLemmas.{kinds_of-entries_by}
 use Rattle.site_laws.specs.Duties.{MaySend, MayDeliver}
-use Rattle.site_laws.specs.SiteCells.{AreSeenOf}
 use Rattle.site_laws.proofs.DutyLemmas.{may-deliver}
 use Rattle.stream_site.specs.Shares.{AreDeliveries, AreRouted, share_in}
+use Rattle.stream_site.specs.Spots.{IsSpot, full_there}
+use Rattle.stream_site.specs.declared.place.Spot.{Spot}
 use Rattle.stream_site.proofs.IndexLemmas.{below_next}
+use Rattle.stream_site.proofs.SpotLemmas.{at_spot}
 
--- what was done at a cell is what the course has at its shard
-pub deliver_here : (before : ℕ) (old new : Writer) (l m : Layout) (c : ByteList)
-    (share : ℕ → List Kind) (stand s cell : ℕ) (ks : List Kind) (r : Result ℕ SiteFault) → m ≡ l
-    → cell ≡ cell_of m.names c s → ks ≡ share s
-    → PassedSent before old new (send_step m.limit cell (ShardFull c s stand) ks) r
-    → PassedSent before old new (send_at l c share stand s) r
-deliver_here before old new l m c share stand s cell ks r e f k p =
-    let a = subst (λ x. PassedSent before old new (send_step m.limit x (ShardFull c s stand) ks) r)
-    f p in
-    let b = subst (λ (x : Layout). PassedSent before old new
-    (send_step x.limit (cell_of x.names c s) (ShardFull c s stand) ks) r) e a in
-    subst (λ x. PassedSent before old new
-    (send_step l.limit (cell_of l.names c s) (ShardFull c s stand) x) r) k b
+-- what was done where a call stands is what the course has at its shard
+deliver_here : (old new : Writer) (l m : Layout) (c : ByteList) (share : ℕ → List Kind)
+    (s stand : ℕ) (at : Spot) (ks : List Kind) (r : Result ℕ SiteFault) → m ≡ l
+    → IsSpot m.names c s stand at → ks ≡ share s
+    → PassedSent at.stand old new (send_step m.limit at.cell (full_there at) ks) r
+    → PassedSent stand old new (send_at l c share stand s) r
+deliver_here old new l m c share s stand at ks r e i k p =
+    subst (λ x. PassedSent stand old new
+    (send_step l.limit (cell_of l.names c s) (ShardFull c s stand) x) r) k
+    (at_spot (λ b limit cell full. PassedSent b old new (send_step limit cell full ks) r)
+    l m c s stand at e i p)
+
+-- one more shard has what it admits
+pub shard_sent : (old mid new : Writer) (p : Course (Result ℕ SiteFault)) (l m : Layout)
+    (c : ByteList) (share : ℕ → List Kind) (s sent n more : ℕ) (at : Spot) (ks : List Kind)
+    → s < n → m ≡ l → IsSpot m.names c s sent at → ks ≡ share s
+    → Stands old mid p (send_shards l c share sent s (n - s)) sent
+    → Stands mid new (send_step m.limit at.cell (full_there at) ks) (ends (Ok more)) more
+    → Stands old new p (send_shards l c share (sent + more) (s + 1) (n - (s + 1))) (sent + more)
+shard_sent old mid new p l m c share s sent n more at ks lt e i k a b =
+    sends_stand old mid new p l c share n s sent more lt a
+    (deliver_here mid new l m c share s sent at ks (Ok more) e i k b)
+
+-- or is refused
+pub shard_refused : (old mid new : Writer) (p : Course (Result ℕ SiteFault)) (l m : Layout)
+    (c : ByteList) (share : ℕ → List Kind) (s sent n : ℕ) (at : Spot) (ks : List Kind)
+    (fault : SiteFault) → s < n → m ≡ l → IsSpot m.names c s sent at → ks ≡ share s
+    → Stands old mid p (send_shards l c share sent s (n - s)) sent
+    → Refused at.stand mid new (send_step m.limit at.cell (full_there at) ks) fault
+    → Refused 0 old new p fault
+shard_refused old mid new p l m c share s sent n at ks fault lt e i k a b =
+    sends_refused old mid new p l c share n s sent fault lt a
+    (deliver_here mid new l m c share s sent at ks (Err fault) e i k b)
 
 -- the step that is taken may be delivered whatever more is seen
-pub allowed_here : (l m : Layout) (old mid : Writer) (c : ByteList) (s cell : ℕ)
+pub allowed_here : (l m : Layout) (old mid : Writer) (c : ByteList) (s stand : ℕ) (at : Spot)
     (steps : List (List Entry)) (step : List Entry)
     → AreDeliveries l.names old.me old.seen c steps → m ≡ l → mid.me ≡ old.me
-    → Grows old.seen mid.seen → s < shards_of l.names c → cell ≡ cell_of m.names c s
-    → cell < length mid.seen → step ≡ get_or steps s [] → 0 < length step → (later : List Log) → Grows mid.seen later
-    → MayDeliver m.names mid.me later cell step
-allowed_here l m old mid c s cell steps step a e same g lt f within is filled later h =
-    let at : cell ≡ cell_of l.names c s = f ∙ ap (λ (x : Layout). cell_of x.names c s) e in
+    → Grows old.seen mid.seen → s < shards_of l.names c → IsSpot m.names c s stand at
+    → at.cell < length mid.seen → step ≡ get_or steps s [] → 0 < length step → (later : List Log)
+    → Grows mid.seen later → MayDeliver m.names mid.me later at.cell step
+allowed_here l m old mid c s stand at steps step a e same g lt i within is filled later h =
+    let f = i.cell_is in
+    let cell : at.cell ≡ cell_of l.names c s = f ∙ ap (λ (x : Layout). cell_of x.names c s) e in
     let long = grows_length mid.seen later h in
-    let there' : cell_of l.names c s < length later = omega (arith, long, at, within) in
+    let there' : cell_of l.names c s < length later = omega (arith, long, cell, within) in
     let some : 0 < length (get_or steps s []) = subst (λ (x : List Entry). 0 < length x) is filled in
     let may = a.allowed s lt some later (grows_join old.seen mid.seen later g h) there' in
     let mine = subst (λ n. MayDeliver l.names n later (cell_of l.names c s) (get_or steps s []))
@@ -67,7 +91,7 @@ allowed_here l m old mid c s cell steps step a e same g lt f within is filled la
     let here = subst (λ (x : Layout). MayDeliver x.names mid.me later (cell_of x.names c s)
     (get_or steps s [])) (sym e) mine in
     let there = subst (λ x. MayDeliver m.names mid.me later x (get_or steps s [])) (sym f) here in
-    subst (MayDeliver m.names mid.me later cell) (sym is) there
+    subst (MayDeliver m.names mid.me later at.cell) (sym is) there
 
 -- what stands and one more share can be counted
 pub sent_fits : (steps : List (List Entry)) (step : List Entry) (n s sent more : ℕ) → s < n

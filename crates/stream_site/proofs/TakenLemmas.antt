@@ -1,12 +1,31 @@
 -- The step that is taken for a shard.
-use Rattle.std.proofs.Common.{◌≡◌, ◌≢◌, ℕ, ◌+◌, ◌-◌, ◌^◌, ◌<◌, ◌≤◌, List, [], length, get_or, set, sym, ap, ◌∙◌, subst, arith, length-set}
+use Rattle.std.proofs.Common.{◌≡◌, ◌≢◌, ℕ, ◌+◌, ◌-◌, ◌^◌, ◌<◌, List, [], length, get_or, set, refl, sym, ap, ◌∙◌, subst, arith, length-set}
 use Rattle.std.proofs.lemmas.List.{length-map, get_or-set_other}
 use Rattle.shard_versions.specs.declared.entry.Entry.{Entry}
 use Rattle.exchange_rules.specs.Rows.{length_below}
 use Rattle.exchange_rules.specs.Steps.{AreBy, kinds_of, writes_in}
 use Rattle.exchange_rules.proofs.RoutingLemmas.{length_below-le}
-use Rattle.stream_site.specs.Shares.{AreSteps, share_in}
+use Rattle.stream_site.specs.Shares.{AreLeft, AreSteps, share_in}
 use Rattle.stream_site.proofs.IndexLemmas.{below_next}
+
+-- at first all are there
+pub left_all : (steps : List (List Entry)) → AreLeft steps steps 0
+left_all steps = record { long = refl; rest = λ s le. refl }
+
+-- the next one is
+pub left_here : (steps left : List (List Entry)) (step : List Entry) (s : ℕ) → AreLeft steps left s
+    → step ≡ get_or left s [] → step ≡ get_or steps s []
+left_here steps left step s a is = is ∙ a.rest s (omega arith)
+
+-- and once it is taken, those behind it
+pub left_after : (steps left new : List (List Entry)) (s : ℕ) → AreLeft steps left s
+    → new ≡ set left s [] → AreLeft steps new (s + 1)
+left_after steps left new s a e = record {
+  long = ap length e ∙ (length-set left s [] ∙ a.long);
+  rest = λ x le. let other : x ≢ s = omega arith in
+      ap (λ y. get_or y x []) e
+      ∙ (get_or-set_other left s x [] [] other ∙ a.rest x (omega arith));
+}
 
 -- the step is the shard's, and what stands after it can be counted
 pub record IsTaken (me s : ℕ) (steps : List (List Entry)) (step : List Entry) (stand count : ℕ)
@@ -20,11 +39,10 @@ pub record IsTaken (me s : ℕ) (steps : List (List Entry)) (step : List Entry) 
 -- by what stands so far
 pub taken : (me now n s : ℕ) (steps left : List (List Entry)) (step : List Entry)
     (stand count : ℕ) → AreSteps me n steps → now ≡ me → s < n → step ≡ get_or left s []
-    → ((x : ℕ) → s ≤ x → get_or left x [] ≡ get_or steps x [])
-    → stand ≡ length_below (share_in steps) s → count ≡ length step
+    → AreLeft steps left s → stand ≡ length_below (share_in steps) s → count ≡ length step
     → IsTaken now s steps step stand count
 taken me now n s steps left step stand count a m lt is rest b e =
-    let same : step ≡ get_or steps s [] = is ∙ rest s (omega arith) in
+    let same = left_here steps left step s rest is in
     let kinds : kinds_of step ≡ share_in steps s = ap kinds_of same in
     let long : length (kinds_of step) ≡ length step = simp length-map in
     let size = ap length kinds in
@@ -44,16 +62,3 @@ taken me now n s steps left step stand count a m lt is rest b e =
       next = next;
       fits = omega (arith, next, whole, le, few);
     }
-
--- the steps behind it are still there
-pub rest_after : (steps left new : List (List Entry)) (s : ℕ)
-    → ((x : ℕ) → s ≤ x → get_or left x [] ≡ get_or steps x []) → new ≡ set left s []
-    → (x : ℕ) → s + 1 ≤ x → get_or new x [] ≡ get_or steps x []
-rest_after steps left new s rest e x le =
-    let other : x ≢ s = omega arith in
-    ap (λ y. get_or y x []) e ∙ (get_or-set_other left s x [] [] other ∙ rest x (omega arith))
-
--- and as many as before
-pub long_after : (steps left new : List (List Entry)) (s : ℕ) → length left ≡ length steps
-    → new ≡ set left s [] → length new ≡ length steps
-long_after steps left new s same e = ap length e ∙ (length-set left s [] ∙ same)

@@ -1,5 +1,6 @@
 -- Answers of calls: what isn't true is false, and an answer is no refusal.
-use Rattle.std.proofs.Common.{◌≡◌, ◌↔◌, Bool, true, false, refl, ap}
+use Rattle.std.proofs.Common.{◌≡◌, ◌↔◌, Bool, true, false, refl, sym, ap, subst}
+use Rattle.std.specs.Result.{IsErrAnd}
 use Rattle.std.specs.Prelude.{Result, Ok, Err}
 use Rattle.shard_versions.specs.declared.fault.ShardFault.{ShardFault}
 use Rattle.shard_versions.specs.declared.fault.ShardFault.TheVariants.{ShardFull, OutOfMemory}
@@ -30,3 +31,9 @@ memory_is_no_full A r e f = cc
 pub err_again : {A B E : Type 0} (e f : E) → ◌≡◌ {A = Result A E} (Err e) (Err f)
     → ◌≡◌ {A = Result B E} (Err e) (Err f)
 err_again e f h = let same : e ≡ f = cc in ap Err same
+
+-- what is known of a fault is known of it where it is handed on
+pub handed_on : {A E : Type 0} (P : Result A E → Type 0) (r : Result A E) (fault : E)
+    → IsErrAnd r (λ f. f ≡ fault) → P (Err fault) → P r
+handed_on P (Ok a) fault e p = absurd e
+handed_on P (Err f) fault e p = subst (λ x. P (Err x)) (sym e) p

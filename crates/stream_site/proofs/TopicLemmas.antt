@@ -1,15 +1,17 @@
 -- Topics of a site, and what is done at its book.
-use Rattle.std.proofs.Common.{◌≡◌, ℕ, ◌+◌, ◌<◌, ◌≤◌, Bool, true, false, List, [], ◌∷◌, ◌++◌, length, get_or, refl, sym, ap, ◌∙◌, subst, arith, if◌then◌else◌}
+use Rattle.std.proofs.Common.{◌≡◌, ℕ, ◌<◌, true, false, List, [], ◌∷◌, ◌++◌, length, get_or, refl, sym, ap, ◌∙◌, subst, if◌then◌else◌}
 use Rattle.std.proofs.lemmas.List.{get_or-set_same}
 use Rattle.std.specs.Prelude.{Option, Some, None, Result, Ok, Err}
 use Rattle.std.specs.List.{AllByRecursion}
 use Rattle.query_syntax.specs.Meaning.{IsReadable}
+use Rattle.tuple_values.specs.Document.{ByteList}
 use Rattle.tuple_values.specs.declared.names.NameShards.{NameShards}
-use Rattle.shard_versions.specs.Shards.{Shard}
+use Rattle.shard_versions.specs.Histories.{top}
+use Rattle.shard_versions.specs.Shards.{Shard, Shown}
 use Rattle.topic_book.specs.Alike.{is_alike}
 use Rattle.topic_book.specs.Books.{Book, binding_of, checkpoints, raises, topics_in}
 use Rattle.topic_book.specs.Cells.{cells_in}
-use Rattle.topic_book.specs.Fitness.{IsFitEntry, IsOfTopic, IsOnCollections, MayFollow}
+use Rattle.topic_book.specs.Fitness.{shards_of, IsFitEntry, IsOfTopic, IsOnCollections, MayFollow}
 use Rattle.topic_book.specs.States.{IsCauseOf, IsOpen, IsOpenTo}
 use Rattle.topic_book.specs.declared.fault.BookFault.{BookFault}
 use Rattle.topic_book.specs.declared.fault.BookFault.TheVariants as fault
@@ -18,15 +20,16 @@ use Rattle.topic_book.specs.declared.topic.Binding.{Binding}
 use Rattle.topic_book.specs.declared.topic.BookEntry.{BookEntry}
 use Rattle.topic_book.specs.declared.topic.BookEntry.TheVariants as book
 use Rattle.once_core.specs.Allowed.{MayStore}
+use Rattle.once_core.specs.Cells.{cell_of, shard_history}
 use Rattle.once_core.specs.declared.world.Histories.{Histories}
 use Rattle.once_core.proofs.KeepingLemmas.{counted_init}
 use Rattle.exchange_rules.specs.Bindings.{bind_again, bind_new, bind_seen, book_cell, book_seen, bound_checkpoint, checkpoint_in, store_seen, topic_state_course}
 use Rattle.exchange_rules.specs.Calls.{Answered, IsStopped, Passed, Refused, Stands}
-use Rattle.exchange_rules.specs.Cells.{Log, author_of, bind, book_in, deed_of, signed, store}
+use Rattle.exchange_rules.specs.Cells.{Log, author_of, bind, book_in, deed_of, signed, store, history_in}
 use Rattle.exchange_rules.specs.Courses.{Course, ends, looks}
 use Rattle.exchange_rules.specs.Following.{Writer}
 use Rattle.exchange_rules.specs.Primitives.{LooksAt, made}
-use Rattle.exchange_rules.specs.Rows.{Layout}
+use Rattle.exchange_rules.specs.Rows.{Layout, shown_of}
 use Rattle.exchange_rules.specs.declared.fault.SiteFault.{SiteFault}
 use Rattle.exchange_rules.specs.declared.fault.SiteFault.TheVariants.{TopicBound, BookFull}
 use Rattle.exchange_rules.specs.declared.log_entry.LogEntry.TheVariants as logged
@@ -36,12 +39,14 @@ use Rattle.exchange_rules.proofs.StandLemmas.{answered_of, stands_none, stopped_
 use Rattle.exchange_rules.proofs.StepLemmas.{look_begun, look_passed, nothing_done}
 use Rattle.site_laws.specs.Duties.{MayNote}
 use Rattle.site_laws.specs.SiteCells.{histories_in}
-use Rattle.site_laws.proofs.CellLemmas.{book-append}
+use Rattle.exchange_rules.proofs.CellLemmas.{cell_of-within}
+use Rattle.site_laws.proofs.CellLemmas.{book-append, shard-at}
 use Rattle.site_laws.proofs.DutyLemmas.{store-looked}
-use Rattle.stream_site.specs.Plains.{Plain, layout_of, writer_of}
+use Rattle.stream_site.specs.Plains.{Plain, writer_of}
 use Rattle.stream_site.specs.Topics.{fault_of}
 use Rattle.stream_site.proofs.MayLemmas.{cell_after}
-use Rattle.stream_site.proofs.PlainLemmas.{histories_of, plain_book}
+use Rattle.stream_site.proofs.PlainLemmas.{histories_of}
+use Rattle.stream_site.proofs.PlainBookLemmas.{plain_book}
 
 -- versions that may be stored are of a topic, with one for each shard of its source
 pub of_topic : (names : List NameShards) (hs : Histories) (b : Book) (key : TopicKey)
@@ -297,3 +302,14 @@ pub stored_stands : (old new : Writer) (names : List NameShards) (by : ℕ) (key
 stored_stands old new names by key copy upto seen up lt same done =
     store_stands old new names key upto seen up lt
     (done ∙ ap (λ k. made old (book_cell names) (store k upto ∷ [])) same)
+
+-- the top that a look at a shard showed is that of the shard's history
+pub top_shown : (names : List NameShards) (logs : List Log) (src : ByteList) (shard cell : ℕ)
+    (s : Shown) → shard < shards_of names src → cell ≡ cell_of names src shard
+    → s ≡ shown_of (history_in (get_or logs cell []))
+    → s.top ≡ top (shard_history names (histories_in names logs) src shard)
+top_shown names logs src shard cell s lt at is =
+    ap (λ (x : Shown). x.top) is
+    ∙ ap top (ap (λ c. history_in (get_or logs c [])) at
+    ∙ sym (shard-at (cells_in names) logs (cell_of names src shard)
+    (cell_of-within names src shard lt)))

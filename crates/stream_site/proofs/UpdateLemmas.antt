@@ -1,5 +1,5 @@
 -- An update is its writes, and then what a commit does.
-use Rattle.std.proofs.Common.{◌≡◌, ℕ, ◌+◌, ◌^◌, ◌<◌, Bool, true, false, List, [], ◌∷◌, length, get_or, sym, ap, ◌∙◌, subst, arith, if◌then◌else◌}
+use Rattle.std.proofs.Common.{◌≡◌, ℕ, ◌+◌, ◌^◌, ◌<◌, Bool, true, false, List, length, get_or, map, refl, sym, ap, ◌∙◌, subst, arith}
 use Rattle.std.specs.Prelude.{Result, Ok, Err}
 use Rattle.std.specs.List.{AllByRecursion}
 use Rattle.tuple_values.specs.Document.{ByteList}
@@ -12,7 +12,7 @@ use Rattle.exchange_rules.specs.Courses.{ends, and_ok}
 use Rattle.exchange_rules.specs.Following.{Writer}
 use Rattle.exchange_rules.specs.Calls.{Stands, Refused, Passed, Answered}
 use Rattle.exchange_rules.specs.Rows.{Layout, length_below, write_at, writes_course, settle_at, settle_all, finish_course, shares_of, index_course}
-use Rattle.exchange_rules.specs.Steps.{AreStorableWrites, closed, entries_by, kind_of, kinds_of, routed, settle_unless, write_course, writes_in}
+use Rattle.exchange_rules.specs.Steps.{closed, kinds_of, routed, settle_unless, write_course, writes_in}
 use Rattle.exchange_rules.specs.declared.fault.SiteFault.{SiteFault}
 use Rattle.exchange_rules.specs.declared.fault.SiteFault.TheVariants.{ShardFull}
 use Rattle.exchange_rules.proofs.RoutingLemmas.{length_below-same, length_below-routed, writes_in-routed}
@@ -20,6 +20,7 @@ use Rattle.exchange_rules.proofs.ShardLemmas.{each_same}
 use Rattle.exchange_rules.proofs.StandLemmas.{stands_ok, stands_join, refused_then, refused_on}
 use Rattle.exchange_rules.proofs.StepLemmas.{kinds_of-entries_by, entries_by_are}
 use Rattle.stream_site.specs.Shares.{AreShares, AreCounts, AreSteps, share_in}
+use Rattle.stream_site.proofs.ShareLemmas.{shares_counts}
 
 -- what is to be appended at a shard are the writes that route there
 pub share_same : (me n : ℕ) (ws : List Write) (steps : List (List Entry)) → AreShares me n ws steps
@@ -67,7 +68,7 @@ settle_same l c a b stand e =
     (e s (omega arith)))
 
 -- the writes were appended as the row says, or one was refused
-pub writes_passed : (old new : Writer) (l : Layout) (c : ByteList) (me n : ℕ) (ws : List Write)
+writes_passed : (old new : Writer) (l : Layout) (c : ByteList) (me n : ℕ) (ws : List Write)
     (steps : List (List Entry)) (commit : Bool) (r : Result (Unit {0}) SiteFault)
     → n ≡ shards_of l.names c → AreShares me n ws steps → 0 < n
     → Passed 0 old new (writes_course l c (share_in steps) commit)
@@ -85,7 +86,7 @@ writes_passed old new l c me n ws steps commit r e a some p =
     (writes_same l c (share_in steps) (shares_of l c ws) commit same) p)
 
 -- the other shards were settled as the row says, or one was refused
-pub settled_passed : (old new : Writer) (l m : Layout) (c : ByteList) (n total : ℕ)
+settled_passed : (old new : Writer) (l m : Layout) (c : ByteList) (n total : ℕ)
     (ws : List Write) (counts : List ℕ) (r : Result (Unit {0}) SiteFault) → m ≡ l
     → n ≡ shards_of l.names c → total ≡ length ws → AreCounts n ws counts
     → Passed total old new (settle_all m c (λ s. get_or counts s 0) total) 0 r
@@ -99,7 +100,7 @@ settled_passed old new l m c n total ws counts r e f t a p =
     (settle_same l c (λ s. get_or counts s 0) (λ s. length (shares_of l c ws s)) (length ws) a') p''
 
 -- an update without a commit
-pub index_plain : (old new : Writer) (l : Layout) (c : ByteList) (ws : List Write)
+index_plain : (old new : Writer) (l : Layout) (c : ByteList) (ws : List Write)
     (commit : Bool) (total : ℕ) → commit ≡ false → total ≡ length ws
     → Passed 0 old new (writes_course l c (shares_of l c ws) commit) (length ws) (Ok tt)
     → Answered old new (index_course l c ws commit) (Ok total)
@@ -114,7 +115,7 @@ index_plain old new l c ws commit total e t p =
     subst (λ n. Answered old new (index_course l c ws commit) (Ok n)) (sym t) done'.reached
 
 -- one with a commit
-pub index_committed : (old mid new : Writer) (l : Layout) (c : ByteList) (ws : List Write)
+index_committed : (old mid new : Writer) (l : Layout) (c : ByteList) (ws : List Write)
     (commit : Bool) (total : ℕ) → commit ≡ true → total ≡ length ws
     → Passed 0 old mid (writes_course l c (shares_of l c ws) commit) (length ws) (Ok tt)
     → Passed (length ws) mid new (finish_course l c (shares_of l c ws) (length ws) true) 0 (Ok tt)
@@ -134,7 +135,7 @@ index_committed old mid new l c ws commit total e t p q =
     subst (λ n. Answered old new (index_course l c ws commit) (Ok n)) (sym t) all.reached
 
 -- a refusal among the writes
-pub index_refused : (old new : Writer) (l : Layout) (c : ByteList) (ws : List Write)
+index_refused : (old new : Writer) (l : Layout) (c : ByteList) (ws : List Write)
     (commit : Bool) (fault : SiteFault)
     → Passed 0 old new (writes_course l c (shares_of l c ws) commit) (length ws) (Err fault)
     → Refused 0 old new (index_course l c ws commit) fault
@@ -142,7 +143,7 @@ index_refused old new l c ws commit fault p =
     refused_then 0 old new (writes_course l c (shares_of l c ws) commit) _ fault p
 
 -- or among the Marks after them
-pub settle_refused : (old mid new : Writer) (l : Layout) (c : ByteList) (ws : List Write)
+settle_refused : (old mid new : Writer) (l : Layout) (c : ByteList) (ws : List Write)
     (commit : Bool) (fault : SiteFault) → commit ≡ true
     → Passed 0 old mid (writes_course l c (shares_of l c ws) commit) (length ws) (Ok tt)
     → Passed (length ws) mid new (finish_course l c (shares_of l c ws) (length ws) true) 0
@@ -160,3 +161,96 @@ settle_refused old mid new l c ws commit fault e p q =
     (subst (λ x. Refused x mid new (finish true) fault) n
     (refused_then (length ws) mid new (finish_course l c share (length ws) true)
     (λ _. ends (Ok (length ws))) fault q))
+
+-- the writes of an update are routed: a step for each shard of the collection, which has one
+pub record AreRoutedTo (l : Layout) (c : ByteList) (ws : List Write) (steps : List (List Entry))
+    : Type 0 where
+  pub me : ℕ
+  pub some : 0 < shards_of l.names c
+  pub shares : AreShares me (shards_of l.names c) ws steps
+
+-- as the writer found the collection
+pub routed_to : (l : Layout) (c : ByteList) (me n : ℕ) (ws : List Write) (steps : List (List Entry))
+    → 0 < shards_of l.names c → n ≡ shards_of l.names c → AreShares me n ws steps
+    → AreRoutedTo l c ws steps
+routed_to l c me n ws steps some e a = record {
+  me = me;
+  some = some;
+  shares = subst (λ k. AreShares me k ws steps) e a;
+}
+
+-- the same steps of the writer itself can be appended
+pub routed_steps : (l : Layout) (c : ByteList) (me by n : ℕ) (ws : List Write)
+    (steps : List (List Entry)) → 0 < shards_of l.names c → n ≡ shards_of l.names c → by ≡ me
+    → AreShares by n ws steps → length ws < 2 ^ 64 → AreSteps me (shards_of l.names c) steps
+routed_steps l c me by n ws steps some e own a few =
+    shares_steps me (shards_of l.names c) ws steps
+    (subst (λ x. AreShares x (shards_of l.names c) ws steps) own
+    (subst (λ k. AreShares by k ws steps) e a)) some few
+
+-- what was written of them
+written : (old new : Writer) (l : Layout) (c : ByteList) (ws : List Write)
+    (steps : List (List Entry)) (commit : Bool) (r : Result (Unit {0}) SiteFault)
+    → AreRoutedTo l c ws steps
+    → Passed 0 old new (writes_course l c (share_in steps) commit)
+    (length_below (share_in steps) (shards_of l.names c)) r
+    → Passed 0 old new (writes_course l c (shares_of l c ws) commit) (length ws) r
+written old new l c ws steps commit r a p =
+    writes_passed old new l c a.me (shards_of l.names c) ws steps commit r refl a.shares a.some p
+
+-- and what was settled behind them, by how many there are for each shard
+settled : (old new : Writer) (l m : Layout) (c : ByteList) (total : ℕ) (ws : List Write)
+    (steps : List (List Entry)) (counts : List ℕ) (r : Result (Unit {0}) SiteFault) → m ≡ l
+    → AreRoutedTo l c ws steps → total ≡ length ws → counts ≡ map length steps
+    → Passed total old new (settle_all m c (λ s. get_or counts s 0) total) 0 r
+    → Passed (length ws) old new (finish_course l c (shares_of l c ws) (length ws) true) 0 r
+settled old new l m c total ws steps counts r e a t k p =
+    settled_passed old new l m c (shards_of l.names c) total ws counts r e refl t
+    (subst (AreCounts (shards_of l.names c) ws) (sym k)
+    (shares_counts a.me (shards_of l.names c) ws steps a.shares)) p
+
+-- an update was refused among its writes
+pub update_refused : (old new : Writer) (l : Layout) (c : ByteList) (ws : List Write)
+    (steps : List (List Entry)) (commit : Bool) (fault : SiteFault) → AreRoutedTo l c ws steps
+    → Passed 0 old new (writes_course l c (share_in steps) commit)
+    (length_below (share_in steps) (shards_of l.names c)) (Err fault)
+    → Refused 0 old new (index_course l c ws commit) fault
+update_refused old new l c ws steps commit fault a p =
+    index_refused old new l c ws commit fault (written old new l c ws steps commit (Err fault) a p)
+
+-- or all were appended, without a commit
+pub update_plain : (old new : Writer) (l : Layout) (c : ByteList) (total : ℕ) (ws : List Write)
+    (steps : List (List Entry)) (commit : Bool) → AreRoutedTo l c ws steps → total ≡ length ws
+    → commit ≡ false
+    → Passed 0 old new (writes_course l c (share_in steps) commit)
+    (length_below (share_in steps) (shards_of l.names c)) (Ok tt)
+    → Answered old new (index_course l c ws commit) (Ok total)
+update_plain old new l c total ws steps commit a t e p =
+    index_plain old new l c ws commit total e t (written old new l c ws steps commit (Ok tt) a p)
+
+-- or with one
+pub update_committed : (old mid new : Writer) (l m : Layout) (c : ByteList) (total : ℕ)
+    (ws : List Write) (steps : List (List Entry)) (counts : List ℕ) (commit : Bool) → m ≡ l
+    → AreRoutedTo l c ws steps → total ≡ length ws → counts ≡ map length steps → commit ≡ true
+    → Passed 0 old mid (writes_course l c (share_in steps) commit)
+    (length_below (share_in steps) (shards_of l.names c)) (Ok tt)
+    → Passed total mid new (settle_all m c (λ s. get_or counts s 0) total) 0 (Ok tt)
+    → Answered old new (index_course l c ws commit) (Ok total)
+update_committed old mid new l m c total ws steps counts commit same a t k e p q =
+    index_committed old mid new l c ws commit total e t
+    (written old mid l c ws steps commit (Ok tt) a p)
+    (settled mid new l m c total ws steps counts (Ok tt) same a t k q)
+
+-- or the commit was refused
+pub update_unsettled : (old mid new : Writer) (l m : Layout) (c : ByteList) (total : ℕ)
+    (ws : List Write) (steps : List (List Entry)) (counts : List ℕ) (commit : Bool)
+    (fault : SiteFault) → m ≡ l → AreRoutedTo l c ws steps → total ≡ length ws
+    → counts ≡ map length steps → commit ≡ true
+    → Passed 0 old mid (writes_course l c (share_in steps) commit)
+    (length_below (share_in steps) (shards_of l.names c)) (Ok tt)
+    → Passed total mid new (settle_all m c (λ s. get_or counts s 0) total) 0 (Err fault)
+    → Refused 0 old new (index_course l c ws commit) fault
+update_unsettled old mid new l m c total ws steps counts commit fault same a t k e p q =
+    settle_refused old mid new l c ws commit fault e
+    (written old mid l c ws steps commit (Ok tt) a p)
+    (settled mid new l m c total ws steps counts (Err fault) same a t k q)

@@ -2,3 +2,4 @@ pub mod Shares
 pub mod Plains
 pub mod Sites
 pub mod Topics
+pub mod Spots

@@ -1,5 +1,5 @@
 -- The writes of an update and the items of a delivery, shard by shard (own).
-use Rattle.std.specs.Prelude.{ℕ, ◌^◌, ◌≡◌, ◌<◌, List, [], filter, get_or, length, map}
+use Rattle.std.specs.Prelude.{ℕ, ◌^◌, ◌≡◌, ◌<◌, ◌≤◌, List, [], filter, get_or, length, map}
 use Rattle.tuple_values.specs.Document.{ByteList}
 use Rattle.tuple_values.specs.declared.names.NameShards.{NameShards}
 use Rattle.tuple_values.specs.declared.write.Write.{Write}
@@ -53,3 +53,8 @@ pub record AreDeliveries (names : List NameShards) (me : ℕ) (seen : List Log) 
       → (later : List Log) → Grows seen later → cell_of names dest shard < length later
       → MayDeliver names me later (cell_of names dest shard) (get_or steps shard [])
   pub few : length_below (share_in steps) (shards_of names dest) < 2 ^ 64
+
+-- of these steps those from this shard on are still there
+pub record AreLeft (steps left : List (List Entry)) (shard : ℕ) : Type 0 where
+  pub long : length left ≡ length steps
+  pub rest : (s : ℕ) → shard ≤ s → get_or left s [] ≡ get_or steps s []

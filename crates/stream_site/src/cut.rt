@@ -6,70 +6,54 @@ ghost use Rattle.exchange_rules.specs.Cells.{history_in};
 ghost use Rattle.exchange_rules.specs.Courses.{ends, looks};
 ghost use Rattle.exchange_rules.specs.Rows.{HasCell, cut_course, cut_shards, part_of};
 
-use crate::place::{locate, width};
+use crate::place::{Spot, locate, width};
 use crate::{SiteFault, Turns};
 use shard_versions::{Cut, CutPart, Snapshot};
 use std::alloc::Global;
 use tuple_values::{FieldList, Memory, Text, TryCopy};
 
 /// The cut with a part behind it.
-fn with_part(
-    alloc: Global,
-    mut cut: Cut,
-    collection: &Text,
-    shard: u16,
-    snapshot: Snapshot,
-) -> Result<Cut, Memory>
+fn with_part(alloc: Global, mut cut: Cut, at: &Spot, snapshot: Snapshot) -> Result<Cut, Memory>
     ensures { IfOk result (λ parts. parts ≡ cut ++ record {
-      collection = collection.now;
-      shard = shard;
+      collection = at.now.collection.now;
+      shard = at.now.shard;
       snapshot = snapshot;
     } ∷ []) }
 {
-    let collection = collection.copy(alloc)?;
+    let collection = at.collection.copy(alloc)?;
     cut.push(CutPart {
         collection,
-        shard,
+        shard: at.shard,
         snapshot,
     })?;
     Ok(cut)
 }
 
-/// One look at the collection's shard, whose part follows the cut.
+/// One look where the call stands; the part of that shard follows the cut.
 fn look_part_over<T: Turns>(
-    site: &mut T,
     alloc: Global,
-    collection: &Text,
-    shard: u16,
-    cell: u32,
+    site: &mut T,
+    at: &Spot,
     cut: Cut,
 ) -> Result<Cut, SiteFault>
-    requires { HasCell (T.layout site.old) (T.writer site.old) cell }
+    requires { HasCell (T.layout site.old) (T.writer site.old) at.now.cell }
     ensures course { Completed (T.writer site.old) (T.writer site.new)
-        (looks cell (λ log. ends (cut ++ part_of collection.now shard (history_in log) ∷ [])))
-        result }
+        (looks at.now.cell (λ log. ends
+        (cut ++ part_of at.now.collection.now at.now.shard (history_in log) ∷ []))) result }
     ensures layout { T.layout site.new ≡ T.layout site.old }
     ensures home { T.home site.new ≡ T.home site.old }
     ensures later { T.later site.old site.new }
 {
-    match site.look(cell) {
-        Ok(()) => {}
-        Err(_) => return Err(SiteFault::OutOfMemory { stand: 0 }),
-    }
-    let snapshot = match site.snapshot(alloc, cell) {
-        Ok(snapshot) => snapshot,
-        Err(_) => return Err(SiteFault::OutOfMemory { stand: 0 }),
-    };
-    match with_part(alloc, cut, collection, shard, snapshot) {
-        Ok(cut) => Ok(cut),
-        Err(_) => Err(SiteFault::OutOfMemory { stand: 0 }),
-    }
+    site.look(at.cell)?;
+    let snapshot = site.snapshot(alloc, at.cell)?;
+    let cut = with_part(alloc, cut, at, snapshot)?;
+    Ok(cut)
 }
 
 /// One look at each shard of the collection, whose parts follow the cut.
 fn cut_collection_over<T: Turns>(
-    site: &mut T,
     alloc: Global,
+    site: &mut T,
     collection: &Text,
     cut: Cut,
 ) -> Result<Cut, SiteFault>
@@ -82,19 +66,16 @@ fn cut_collection_over<T: Turns>(
 {
     let mut cut = cut;
     for shard in 0..width(site, collection) {
-        let cell = locate(site, collection, shard);
-        cut = match look_part_over(site, alloc, collection, shard, cell, cut) {
-            Ok(cut) => cut,
-            Err(fault) => return Err(fault),
-        };
+        let at = locate(site, collection, shard, 0);
+        cut = look_part_over(alloc, site, &at, cut)?;
     }
     Ok(cut)
 }
 
 /// One look at each shard of the collections, in their order and then by shard.
 fn cut_parts_over<T: Turns>(
-    site: &mut T,
     alloc: Global,
+    site: &mut T,
     collections: &FieldList,
 ) -> Result<Cut, SiteFault>
     ensures course { Completed (T.writer site.old) (T.writer site.new)
@@ -105,10 +86,7 @@ fn cut_parts_over<T: Turns>(
 {
     let mut cut = Cut::new(alloc);
     for collection in collections.as_slice() {
-        cut = match cut_collection_over(site, alloc, collection, cut) {
-            Ok(cut) => cut,
-            Err(fault) => return Err(fault),
-        };
+        cut = cut_collection_over(alloc, site, collection, cut)?;
     }
     Ok(cut)
 }
@@ -124,8 +102,8 @@ fn count_looks<T: Turns>(site: &T, collections: &FieldList) -> usize {
 
 /// The same, once there is room for the looks.
 fn cut_ready_over<T: Turns>(
-    site: &mut T,
     alloc: Global,
+    site: &mut T,
     collections: &FieldList,
 ) -> Result<Cut, SiteFault>
     ensures course { Completed (T.writer site.old) (T.writer site.new)
@@ -135,17 +113,15 @@ fn cut_ready_over<T: Turns>(
     ensures later { T.later site.old site.new }
 {
     let looks = count_looks(site, collections);
-    match site.make_room(looks) {
-        Ok(()) => cut_parts_over(site, alloc, collections),
-        Err(_) => Err(SiteFault::OutOfMemory { stand: 0 }),
-    }
+    site.make_room(looks)?;
+    cut_parts_over(alloc, site, collections)
 }
 
 /// One look at each shard of the collections, in their order and then by shard. The writer has no
 /// turn afterwards.
 pub fn take_cut_over<T: Turns>(
-    site: &mut T,
     alloc: Global,
+    site: &mut T,
     collections: &FieldList,
 ) -> Result<Cut, SiteFault>
     ensures course { Completed (T.writer site.old) (T.writer site.new)
@@ -155,7 +131,7 @@ pub fn take_cut_over<T: Turns>(
     ensures home { T.home site.new ≡ T.home site.old }
     ensures later { T.later site.old site.new }
 {
-    let result = cut_ready_over(site, alloc, collections);
+    let result = cut_ready_over(alloc, site, collections);
     site.leave();
     result
 }

@@ -28,8 +28,8 @@ fn count_at(counts: &[usize], place: u16) -> usize
 
 /// Settles each shard of the collection, but for those to which writes went.
 fn settle_all_over<T: Turns>(
-    site: &mut T,
     alloc: Global,
+    site: &mut T,
     collection: &Text,
     counts: &[usize],
     stand: u64,
@@ -42,19 +42,16 @@ fn settle_all_over<T: Turns>(
 {
     for shard in 0..width(site, collection) {
         let writes = count_at(counts, shard);
-        let cell = locate(site, collection, shard);
-        match settle_shard_over(site, alloc, collection, shard, cell, writes, stand) {
-            Ok(()) => {}
-            Err(fault) => return Err(fault),
-        }
+        let at = locate(site, collection, shard, stand);
+        settle_shard_over(alloc, site, &at, writes)?;
     }
     Ok(())
 }
 
 /// Appends each step at its shard of the collection, and leaves an empty one in its place.
 fn write_all_over<T: Turns>(
-    site: &mut T,
     alloc: Global,
+    site: &mut T,
     collection: &Text,
     steps: &mut Vec<Step>,
     commit: bool,
@@ -75,11 +72,8 @@ fn write_all_over<T: Turns>(
     for shard in 0..width(site, collection) {
         let step = take_step(alloc, steps, shard);
         let count = step.len() as u64;
-        let cell = locate(site, collection, shard);
-        match write_over(site, alloc, collection, shard, cell, step, commit, stand) {
-            Ok(()) => {}
-            Err(fault) => return Err(fault),
-        }
+        let at = locate(site, collection, shard, stand);
+        write_over(alloc, site, &at, step, commit)?;
         stand += count;
     }
     Ok(())
@@ -88,8 +82,8 @@ fn write_all_over<T: Turns>(
 /// The writes at the collection's shards, and with a commit a Mark on each shard where a write is
 /// pending. The answer is the number of writes.
 fn index_steps_over<T: Turns>(
-    site: &mut T,
     alloc: Global,
+    site: &mut T,
     collection: &Text,
     writes: Writes,
     commit: bool,
@@ -103,31 +97,20 @@ fn index_steps_over<T: Turns>(
 {
     let total = writes.len() as u64;
     let shards = width(site, collection);
-    let mut steps = match route(alloc, site.number(), shards, writes) {
-        Ok(steps) => steps,
-        Err(_) => return Err(SiteFault::OutOfMemory { stand: 0 }),
-    };
-    let counts = match counts_of(alloc, &steps) {
-        Ok(counts) => counts,
-        Err(_) => return Err(SiteFault::OutOfMemory { stand: 0 }),
-    };
-    match write_all_over(site, alloc, collection, &mut steps, commit) {
-        Ok(()) => {}
-        Err(fault) => return Err(fault),
-    }
+    let mut steps = route(alloc, site.number(), shards, writes)?;
+    let counts = counts_of(alloc, &steps)?;
+    write_all_over(alloc, site, collection, &mut steps, commit)?;
     if !commit {
         return Ok(total);
     }
-    match settle_all_over(site, alloc, collection, &counts, total) {
-        Ok(()) => Ok(total),
-        Err(fault) => Err(fault),
-    }
+    settle_all_over(alloc, site, collection, &counts, total)?;
+    Ok(total)
 }
 
 /// The same, once there is room for the looks.
 fn index_ready_over<T: Turns>(
-    site: &mut T,
     alloc: Global,
+    site: &mut T,
     collection: &Text,
     writes: Writes,
     commit: bool,
@@ -140,16 +123,14 @@ fn index_ready_over<T: Turns>(
     ensures home { T.home site.new ≡ T.home site.old }
 {
     let shards = width(site, collection);
-    match site.make_room(usize::from(shards)) {
-        Ok(()) => index_steps_over(site, alloc, collection, writes, commit),
-        Err(_) => Err(SiteFault::OutOfMemory { stand: 0 }),
-    }
+    site.make_room(usize::from(shards))?;
+    index_steps_over(alloc, site, collection, writes, commit)
 }
 
 /// A Mark on each shard of the collection where a write is pending.
 fn commit_steps_over<T: Turns>(
-    site: &mut T,
     alloc: Global,
+    site: &mut T,
     collection: &Text,
 ) -> Result<(), SiteFault>
     ensures course { Answered (T.writer site.old) (T.writer site.new)
@@ -158,17 +139,15 @@ fn commit_steps_over<T: Turns>(
     ensures home { T.home site.new ≡ T.home site.old }
 {
     let shards = width(site, collection);
-    match site.make_room(usize::from(shards)) {
-        Ok(()) => settle_all_over(site, alloc, collection, &[], 0),
-        Err(_) => Err(SiteFault::OutOfMemory { stand: 0 }),
-    }
+    site.make_room(usize::from(shards))?;
+    settle_all_over(alloc, site, collection, &[], 0)
 }
 
 /// The writes at the collection's shards, and with a commit a Mark on each shard where a write is
 /// pending. The answer is the number of writes. The writer has no turn afterwards.
 pub fn index_over<T: Turns>(
-    site: &mut T,
     alloc: Global,
+    site: &mut T,
     collection: &Text,
     writes: Writes,
     commit: bool,
@@ -181,7 +160,7 @@ pub fn index_over<T: Turns>(
     ensures layout { T.layout site.new ≡ T.layout site.old }
     ensures home { T.home site.new ≡ T.home site.old }
 {
-    let result = index_ready_over(site, alloc, collection, writes, commit);
+    let result = index_ready_over(alloc, site, collection, writes, commit);
     site.leave();
     result
 }
@@ -189,8 +168,8 @@ pub fn index_over<T: Turns>(
 /// A Mark on each shard of the collection where a write is pending. The writer has no turn
 /// afterwards.
 pub fn commit_all_over<T: Turns>(
-    site: &mut T,
     alloc: Global,
+    site: &mut T,
     collection: &Text,
 ) -> Result<(), SiteFault>
     ensures course { Answered (T.writer site.old) (T.writer site.new)
@@ -199,7 +178,7 @@ pub fn commit_all_over<T: Turns>(
     ensures layout { T.layout site.new ≡ T.layout site.old }
     ensures home { T.home site.new ≡ T.home site.old }
 {
-    let result = commit_steps_over(site, alloc, collection);
+    let result = commit_steps_over(alloc, site, collection);
     site.leave();
     result
 }

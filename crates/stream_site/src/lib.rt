@@ -3,6 +3,7 @@
 
 mod cut;
 mod delivery;
+mod duties;
 mod empty;
 mod index;
 mod place;
@@ -17,6 +18,7 @@ mod turns;
 mod writes;
 
 pub use cut::take_cut_over;
+pub use duties::may_store_nowhere;
 pub use exchange_rules::{Batch, BatchItem, LogEntry, Sent, SiteFault};
 pub use index::{commit_all_over, index_over};
 pub use place::shards_of;

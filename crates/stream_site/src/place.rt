@@ -4,6 +4,7 @@ ghost use Rattle.topic_book.specs.Cells.{cells_in, cell_of};
 ghost use Rattle.topic_book.specs.Fitness.{shards_of};
 ghost use Rattle.exchange_rules.specs.Bindings.{book_cell};
 ghost use Rattle.exchange_rules.specs.Rows.{HasCell};
+ghost use Rattle.stream_site.specs.Spots.{IsSpot};
 
 use crate::Turns;
 use tuple_values::{Names, Text};
@@ -12,12 +13,10 @@ use tuple_values::{Names, Text};
 pub fn shards_of(names: &Names, collection: &str) -> u16
     ensures { result ≡ shards_of names.now collection.now }
 {
-    for entry in names.as_slice() {
-        if entry.name.as_str() == collection {
-            return entry.shards;
-        }
+    match names.find(collection.as_bytes()) {
+        Some(found) => found.shards,
+        None => 0,
     }
-    0
 }
 
 /// The cell of the collection's first shard.
@@ -42,14 +41,34 @@ pub(crate) fn width<T: Turns>(site: &T, collection: &Text) -> u16
     shards_of(site.names(), collection.as_str())
 }
 
-/// The cell of the collection's shard, as a writer of the site finds it.
-pub(crate) fn locate<T: Turns>(site: &T, collection: &Text, shard: u16) -> u32
+/// Where a call stands: at a shard of a collection, with its cell, after so many of the call's
+/// writes.
+#[derive(Clone, Copy)]
+pub(crate) struct Spot<'a> {
+    pub(crate) collection: &'a Text,
+    pub(crate) shard: u16,
+    pub(crate) cell: u32,
+    pub(crate) stand: u64,
+}
+
+/// A call that stands at the collection's shard, as a writer of the site finds it.
+pub(crate) fn locate<'a, T: Turns>(
+    site: &T,
+    collection: &'a Text,
+    shard: u16,
+    stand: u64,
+) -> Spot<'a>
     requires { shard < shards_of (T.layout site.now).names collection.now }
-    ensures cell { result ≡ cell_of (T.layout site.now).names collection.now shard }
-    ensures here { HasCell (T.layout site.now) (T.writer site.now) result }
+    ensures spot { IsSpot (T.layout site.now).names collection.now shard stand result }
+    ensures here { HasCell (T.layout site.now) (T.writer site.now) result.cell }
 {
     let first = first_cell(site.names(), collection.as_str());
-    first + u32::from(shard)
+    Spot {
+        collection,
+        shard,
+        cell: first + u32::from(shard),
+        stand,
+    }
 }
 
 /// How many cells the collections' shards have.

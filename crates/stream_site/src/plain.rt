@@ -26,6 +26,7 @@ use crate::send::send_over;
 use crate::step::close;
 use crate::topics::{bind_topic_over, store_topic_over, topic_state_over};
 use crate::{Batch, Sent, SiteFault, Turns};
+use once_core::{is_on_collections, is_readable};
 use shard_versions::{
     Cut, CutMark, CutMarks, OwnMark, OwnMarks, Record, ShardFault, ShardState, Snapshot, Step,
 };
@@ -118,7 +119,7 @@ impl PlainSite {
             (send_course (layout_of self.old) dest.now src.now batch) result }
         ensures same { layout_of self.new ≡ layout_of self.old }
     {
-        send_over(self, alloc, dest, src, batch)
+        send_over(alloc, self, dest, src, batch)
     }
 
     /// Up to where the topic was delivered, and none where it isn't bound.
@@ -131,7 +132,18 @@ impl PlainSite {
             (topic_state_course self.old.names key.now) result }
         ensures same { layout_of self.new ≡ layout_of self.old }
     {
-        topic_state_over(self, alloc, key)
+        topic_state_over(alloc, self, key)
+    }
+
+    /// Whether the topic may be bound so: it is on known collections, and its query can be read.
+    pub fn may_bind(&self, alloc: Global, key: &TopicKey, binding: &Binding) -> Result<bool, Memory>
+        ensures { IfOk result (λ may. Decides may
+            (IsOnCollections self.now.names key.now binding.now × IsReadable binding.now.q)) }
+    {
+        if !is_on_collections(self.names.as_slice(), key, binding) {
+            return Ok(false);
+        }
+        is_readable(alloc, &binding.q)
     }
 
     /// Binds the topic; one that is bound alike stays as it is. The answer is the topic's
@@ -148,7 +160,7 @@ impl PlainSite {
             (bind_course self.old.names key.now binding) result }
         ensures same { layout_of self.new ≡ layout_of self.old }
     {
-        bind_topic_over(self, alloc, key, binding)
+        bind_topic_over(alloc, self, key, binding)
     }
 
     /// Stores up to where the topic was delivered; where that raises nothing, nothing is added.
@@ -164,7 +176,7 @@ impl PlainSite {
             (store_course self.old.names key.now upto) result }
         ensures same { layout_of self.new ≡ layout_of self.old }
     {
-        store_topic_over(self, alloc, key, upto)
+        store_topic_over(alloc, self, key, upto)
     }
 
     /// One look at each shard of the collections, in their order and then by shard.
@@ -173,7 +185,7 @@ impl PlainSite {
             (cut_course self.old.names [] collections.now) result }
         ensures same { layout_of self.new ≡ layout_of self.old }
     {
-        take_cut_over(self, alloc, collections)
+        take_cut_over(alloc, self, collections)
     }
 
     /// The writes at the collection's shards, and with a commit a Mark on each shard where a write
@@ -191,7 +203,7 @@ impl PlainSite {
             (index_course (layout_of self.old) collection.now writes commit) result }
         ensures same { layout_of self.new ≡ layout_of self.old }
     {
-        index_over(self, alloc, collection, writes, commit)
+        index_over(alloc, self, collection, writes, commit)
     }
 
     /// A Mark on each shard of the collection where a write is pending.
@@ -200,7 +212,7 @@ impl PlainSite {
             (commit_course (layout_of self.old) collection.now) result }
         ensures same { layout_of self.new ≡ layout_of self.old }
     {
-        commit_all_over(self, alloc, collection)
+        commit_all_over(alloc, self, collection)
     }
 
     /// The looks and steps since the last such call, those of refused calls too. The record begins

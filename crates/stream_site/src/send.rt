@@ -22,8 +22,8 @@ use tuple_values::Text;
 /// Delivers each step at its shard of the destination, and leaves an empty one in its place. The
 /// answer is how many entries were admitted.
 fn deliver_all_over<T: Turns>(
-    site: &mut T,
     alloc: Global,
+    site: &mut T,
     dest: &Text,
     steps: &mut Vec<Step>,
 ) -> Result<u64, SiteFault>
@@ -40,11 +40,8 @@ fn deliver_all_over<T: Turns>(
     let mut admitted: u64 = 0;
     for shard in 0..width(site, dest) {
         let step = take_step(alloc, steps, shard);
-        let cell = locate(site, dest, shard);
-        match deliver_over(site, alloc, dest, shard, cell, step, admitted) {
-            Ok(more) => admitted += more,
-            Err(fault) => return Err(fault),
-        }
+        let at = locate(site, dest, shard, admitted);
+        admitted += deliver_over(alloc, site, &at, step)?;
     }
     Ok(admitted)
 }
@@ -52,8 +49,8 @@ fn deliver_all_over<T: Turns>(
 /// Per shard of the destination to which an item routes one look, and the step of those that it
 /// admits.
 fn send_steps_over<T: Turns>(
-    site: &mut T,
     alloc: Global,
+    site: &mut T,
     dest: &Text,
     src: &Text,
     batch: Batch,
@@ -66,23 +63,18 @@ fn send_steps_over<T: Turns>(
 {
     let total = batch.len() as u64;
     let shards = width(site, dest);
-    let mut steps = match route_batch(alloc, site.number(), shards, src, batch) {
-        Ok(steps) => steps,
-        Err(_) => return Err(SiteFault::OutOfMemory { stand: 0 }),
-    };
-    match deliver_all_over(site, alloc, dest, &mut steps) {
-        Ok(admitted) => Ok(Sent {
-            admitted,
-            refused: total - admitted,
-        }),
-        Err(fault) => Err(fault),
-    }
+    let mut steps = route_batch(alloc, site.number(), shards, src, batch)?;
+    let admitted = deliver_all_over(alloc, site, dest, &mut steps)?;
+    Ok(Sent {
+        admitted,
+        refused: total - admitted,
+    })
 }
 
 /// The same, once there is room for the looks.
 fn send_ready_over<T: Turns>(
-    site: &mut T,
     alloc: Global,
+    site: &mut T,
     dest: &Text,
     src: &Text,
     batch: Batch,
@@ -94,18 +86,16 @@ fn send_ready_over<T: Turns>(
     ensures home { T.home site.new ≡ T.home site.old }
 {
     let shards = width(site, dest);
-    match site.make_room(usize::from(shards)) {
-        Ok(()) => send_steps_over(site, alloc, dest, src, batch),
-        Err(_) => Err(SiteFault::OutOfMemory { stand: 0 }),
-    }
+    site.make_room(usize::from(shards))?;
+    send_steps_over(alloc, site, dest, src, batch)
 }
 
 /// Delivers the batch to its destination: at each shard to which an item routes those that the
 /// shard admits, and a Mark. The answer is how many were admitted, and how many weren't. The writer
 /// has seen the writes that the items come from. It has no turn afterwards.
 pub fn send_over<T: Turns>(
-    site: &mut T,
     alloc: Global,
+    site: &mut T,
     dest: &Text,
     src: &Text,
     batch: Batch,
@@ -117,7 +107,7 @@ pub fn send_over<T: Turns>(
     ensures layout { T.layout site.new ≡ T.layout site.old }
     ensures home { T.home site.new ≡ T.home site.old }
 {
-    let result = send_ready_over(site, alloc, dest, src, batch);
+    let result = send_ready_over(alloc, site, dest, src, batch);
     site.leave();
     result
 }

@@ -8,17 +8,20 @@ ghost use Rattle.exchange_rules.specs.Following.{Grows};
 ghost use Rattle.exchange_rules.specs.Rows.{HasCell};
 ghost use Rattle.exchange_rules.specs.Steps.{AreBy, closed, fitting, kinds_of, settle_course, settle_unless, settling, step_course, write_course, writes_in};
 ghost use Rattle.site_laws.specs.Duties.{IsFitStep, MayDeliver, MayWrite};
+ghost use Rattle.stream_site.specs.Spots.{full_there};
 
+use crate::place::Spot;
 use crate::{SiteFault, Turns};
 use shard_versions::{Entry, ShardFault, Step};
 use std::alloc::Global;
-use tuple_values::{Memory, Text, TryCopy};
+use tuple_values::{Memory, TryCopy};
 
-/// The refusal of a step at this shard, after so many writes.
-fn full_at(alloc: Global, collection: &Text, shard: u16, stand: u64) -> SiteFault
-    ensures { Tells (SiteFault.ShardFull collection.now shard stand) stand result }
+/// The refusal of a step where the call stands.
+fn full_at(alloc: Global, at: &Spot) -> SiteFault
+    ensures { Tells (full_there at.now) at.now.stand result }
 {
-    match collection.copy(alloc) {
+    let (shard, stand) = (at.shard, at.stand);
+    match at.collection.copy(alloc) {
         Ok(collection) => SiteFault::ShardFull {
             collection,
             shard,
@@ -30,57 +33,46 @@ fn full_at(alloc: Global, collection: &Text, shard: u16, stand: u64) -> SiteFaul
 
 /// The step behind what was just seen of the cell, unless it doesn't fit.
 fn append_over<T: Turns>(
-    site: &mut T,
     alloc: Global,
-    collection: &Text,
-    shard: u16,
-    cell: u32,
+    site: &mut T,
+    at: &Spot,
     step: Step,
-    stand: u64,
 ) -> Result<(), SiteFault>
-    requires in_range { HasCell (T.layout site.old) (T.writer site.old) cell }
-    requires holds { T.holds site.old cell }
+    requires in_range { HasCell (T.layout site.old) (T.writer site.old) at.now.cell }
+    requires holds { T.holds site.old at.now.cell }
     requires allowed { MayWrite (T.layout site.old).names (T.writer site.old).me
-        (T.writer site.old).seen cell step }
-    ensures course { Passed stand (T.writer site.old) (T.writer site.new)
-        (fitting (T.layout site.old).limit cell (kinds_of step)
-        (SiteFault.ShardFull collection.now shard stand)
-        (history_in (get_or (T.writer site.old).seen cell [])))
+        (T.writer site.old).seen at.now.cell step }
+    ensures course { Passed at.now.stand (T.writer site.old) (T.writer site.new)
+        (fitting (T.layout site.old).limit at.now.cell (kinds_of step)
+        (full_there at.now)
+        (history_in (get_or (T.writer site.old).seen at.now.cell [])))
         (writes_in (kinds_of step)) result }
     ensures layout { T.layout site.new ≡ T.layout site.old }
     ensures home { T.home site.new ≡ T.home site.old }
 {
-    match site.seal(cell, step) {
+    match site.seal(at.cell, step) {
         Ok(()) => Ok(()),
-        Err(ShardFault::ShardFull) => Err(full_at(alloc, collection, shard, stand)),
-        Err(ShardFault::OutOfMemory) => Err(SiteFault::OutOfMemory { stand }),
+        Err(ShardFault::ShardFull) => Err(full_at(alloc, at)),
+        Err(ShardFault::OutOfMemory) => Err(SiteFault::OutOfMemory { stand: at.stand }),
     }
 }
 
 /// One look, and the step unless it doesn't fit.
-fn step_over<T: Turns>(
-    site: &mut T,
-    alloc: Global,
-    collection: &Text,
-    shard: u16,
-    cell: u32,
-    step: Step,
-    stand: u64,
-) -> Result<(), SiteFault>
-    requires in_range { HasCell (T.layout site.old) (T.writer site.old) cell }
+fn step_over<T: Turns>(alloc: Global, site: &mut T, at: &Spot, step: Step) -> Result<(), SiteFault>
+    requires in_range { HasCell (T.layout site.old) (T.writer site.old) at.now.cell }
     requires own { AreBy (T.writer site.old).me step }
     requires filled { 0 < length step }
-    requires fit { IsFitStep (T.layout site.old).names cell step }
-    ensures course { Passed stand (T.writer site.old) (T.writer site.new)
-        (step_course (T.layout site.old).limit cell (kinds_of step)
-        (SiteFault.ShardFull collection.now shard stand))
+    requires fit { IsFitStep (T.layout site.old).names at.now.cell step }
+    ensures course { Passed at.now.stand (T.writer site.old) (T.writer site.new)
+        (step_course (T.layout site.old).limit at.now.cell (kinds_of step)
+        (full_there at.now))
         (writes_in (kinds_of step)) result }
     ensures layout { T.layout site.new ≡ T.layout site.old }
     ensures home { T.home site.new ≡ T.home site.old }
 {
-    match site.look(cell) {
-        Ok(()) => append_over(site, alloc, collection, shard, cell, step, stand),
-        Err(_) => Err(SiteFault::OutOfMemory { stand }),
+    match site.look(at.cell) {
+        Ok(()) => append_over(alloc, site, at, step),
+        Err(_) => Err(SiteFault::OutOfMemory { stand: at.stand }),
     }
 }
 
@@ -96,21 +88,18 @@ pub(crate) fn close(mut step: Step, writer: u64, commit: bool) -> Result<Step, M
 
 /// The step, which ends with a Mark where there is a commit; nothing where there is no write.
 pub(crate) fn write_over<T: Turns>(
-    site: &mut T,
     alloc: Global,
-    collection: &Text,
-    shard: u16,
-    cell: u32,
+    site: &mut T,
+    at: &Spot,
     step: Step,
     commit: bool,
-    stand: u64,
 ) -> Result<(), SiteFault>
-    requires in_range { HasCell (T.layout site.old) (T.writer site.old) cell }
+    requires in_range { HasCell (T.layout site.old) (T.writer site.old) at.now.cell }
     requires own { AreBy (T.writer site.old).me step }
-    requires fit { IsFitStep (T.layout site.old).names cell step }
-    ensures course { Passed stand (T.writer site.old) (T.writer site.new)
-        (write_course (T.layout site.old).limit cell (closed commit (kinds_of step))
-        (SiteFault.ShardFull collection.now shard stand))
+    requires fit { IsFitStep (T.layout site.old).names at.now.cell step }
+    ensures course { Passed at.now.stand (T.writer site.old) (T.writer site.new)
+        (write_course (T.layout site.old).limit at.now.cell (closed commit (kinds_of step))
+        (full_there at.now))
         (writes_in (kinds_of step)) result }
     ensures layout { T.layout site.new ≡ T.layout site.old }
     ensures home { T.home site.new ≡ T.home site.old }
@@ -119,8 +108,8 @@ pub(crate) fn write_over<T: Turns>(
         return Ok(());
     }
     match close(step, site.number(), commit) {
-        Ok(step) => step_over(site, alloc, collection, shard, cell, step, stand),
-        Err(_) => Err(SiteFault::OutOfMemory { stand }),
+        Ok(step) => step_over(alloc, site, at, step),
+        Err(_) => Err(SiteFault::OutOfMemory { stand: at.stand }),
     }
 }
 
@@ -134,92 +123,72 @@ fn mark_step(alloc: Global, writer: u64) -> Result<Step, Memory>
 }
 
 /// A Mark where a write is pending in what was just seen of the cell.
-fn settle_seen_over<T: Turns>(
-    site: &mut T,
-    alloc: Global,
-    collection: &Text,
-    shard: u16,
-    cell: u32,
-    stand: u64,
-) -> Result<(), SiteFault>
-    requires in_range { HasCell (T.layout site.old) (T.writer site.old) cell }
-    requires holds { T.holds site.old cell }
-    ensures course { Passed stand (T.writer site.old) (T.writer site.new)
-        (settling (T.layout site.old).limit cell (SiteFault.ShardFull collection.now shard stand)
-        (history_in (get_or (T.writer site.old).seen cell []))) 0 result }
+fn settle_seen_over<T: Turns>(alloc: Global, site: &mut T, at: &Spot) -> Result<(), SiteFault>
+    requires in_range { HasCell (T.layout site.old) (T.writer site.old) at.now.cell }
+    requires holds { T.holds site.old at.now.cell }
+    ensures course { Passed at.now.stand (T.writer site.old) (T.writer site.new)
+        (settling (T.layout site.old).limit at.now.cell (full_there at.now)
+        (history_in (get_or (T.writer site.old).seen at.now.cell []))) 0 result }
     ensures layout { T.layout site.new ≡ T.layout site.old }
     ensures home { T.home site.new ≡ T.home site.old }
 {
-    if !site.is_pending(cell) {
+    if !site.is_pending(at.cell) {
         return Ok(());
     }
     match mark_step(alloc, site.number()) {
-        Ok(step) => append_over(site, alloc, collection, shard, cell, step, stand),
-        Err(_) => Err(SiteFault::OutOfMemory { stand }),
+        Ok(step) => append_over(alloc, site, at, step),
+        Err(_) => Err(SiteFault::OutOfMemory { stand: at.stand }),
     }
 }
 
 /// One look, and a Mark where a write is pending at it.
-fn settle_over<T: Turns>(
-    site: &mut T,
-    alloc: Global,
-    collection: &Text,
-    shard: u16,
-    cell: u32,
-    stand: u64,
-) -> Result<(), SiteFault>
-    requires { HasCell (T.layout site.old) (T.writer site.old) cell }
-    ensures course { Passed stand (T.writer site.old) (T.writer site.new)
-        (settle_course (T.layout site.old).limit cell
-        (SiteFault.ShardFull collection.now shard stand)) 0 result }
+fn settle_over<T: Turns>(alloc: Global, site: &mut T, at: &Spot) -> Result<(), SiteFault>
+    requires { HasCell (T.layout site.old) (T.writer site.old) at.now.cell }
+    ensures course { Passed at.now.stand (T.writer site.old) (T.writer site.new)
+        (settle_course (T.layout site.old).limit at.now.cell
+        (full_there at.now)) 0 result }
     ensures layout { T.layout site.new ≡ T.layout site.old }
     ensures home { T.home site.new ≡ T.home site.old }
 {
-    match site.look(cell) {
-        Ok(()) => settle_seen_over(site, alloc, collection, shard, cell, stand),
-        Err(_) => Err(SiteFault::OutOfMemory { stand }),
+    match site.look(at.cell) {
+        Ok(()) => settle_seen_over(alloc, site, at),
+        Err(_) => Err(SiteFault::OutOfMemory { stand: at.stand }),
     }
 }
 
 /// The shard is settled, unless so many writes went there.
 pub(crate) fn settle_shard_over<T: Turns>(
-    site: &mut T,
     alloc: Global,
-    collection: &Text,
-    shard: u16,
-    cell: u32,
+    site: &mut T,
+    at: &Spot,
     writes: usize,
-    stand: u64,
 ) -> Result<(), SiteFault>
-    requires { HasCell (T.layout site.old) (T.writer site.old) cell }
-    ensures course { Passed stand (T.writer site.old) (T.writer site.new)
-        (settle_unless (T.layout site.old).limit cell writes
-        (SiteFault.ShardFull collection.now shard stand)) 0 result }
+    requires { HasCell (T.layout site.old) (T.writer site.old) at.now.cell }
+    ensures course { Passed at.now.stand (T.writer site.old) (T.writer site.new)
+        (settle_unless (T.layout site.old).limit at.now.cell writes
+        (full_there at.now)) 0 result }
     ensures layout { T.layout site.new ≡ T.layout site.old }
     ensures home { T.home site.new ≡ T.home site.old }
 {
     if writes > 0 {
         return Ok(());
     }
-    settle_over(site, alloc, collection, shard, cell, stand)
+    settle_over(alloc, site, at)
 }
 
 /// What of the step is admitted at one look, and a Mark; nothing where the step has no entry. The
 /// answer is how many entries were admitted.
 pub(crate) fn deliver_over<T: Turns>(
-    site: &mut T,
     alloc: Global,
-    dest: &Text,
-    shard: u16,
-    cell: u32,
+    site: &mut T,
+    at: &Spot,
     step: Step,
-    stand: u64,
 ) -> Result<u64, SiteFault>
-    requires in_range { HasCell (T.layout site.old) (T.writer site.old) cell }
+    requires in_range { HasCell (T.layout site.old) (T.writer site.old) at.now.cell }
     requires allowed { 0 < length step → (seen : List Log) → Grows (T.writer site.old).seen seen
-        → MayDeliver (T.layout site.old).names (T.writer site.old).me seen cell step }
-    ensures course { PassedSent stand (T.writer site.old) (T.writer site.new)
-        (send_step (T.layout site.old).limit cell (SiteFault.ShardFull dest.now shard stand)
+        → MayDeliver (T.layout site.old).names (T.writer site.old).me seen at.now.cell step }
+    ensures course { PassedSent at.now.stand (T.writer site.old) (T.writer site.new)
+        (send_step (T.layout site.old).limit at.now.cell (full_there at.now)
         (kinds_of step)) result }
     ensures few { IfOk result (λ n. n ≤ length step) }
     ensures layout { T.layout site.new ≡ T.layout site.old }
@@ -228,38 +197,36 @@ pub(crate) fn deliver_over<T: Turns>(
     if step.len() == 0 {
         return Ok(0);
     }
-    match site.look(cell) {
-        Ok(()) => deliver_seen_over(site, alloc, dest, shard, cell, step, stand),
-        Err(_) => Err(SiteFault::OutOfMemory { stand }),
+    match site.look(at.cell) {
+        Ok(()) => deliver_seen_over(alloc, site, at, step),
+        Err(_) => Err(SiteFault::OutOfMemory { stand: at.stand }),
     }
 }
 
 /// The same by what was just seen of the cell.
 fn deliver_seen_over<T: Turns>(
-    site: &mut T,
     alloc: Global,
-    dest: &Text,
-    shard: u16,
-    cell: u32,
+    site: &mut T,
+    at: &Spot,
     step: Step,
-    stand: u64,
 ) -> Result<u64, SiteFault>
-    requires in_range { HasCell (T.layout site.old) (T.writer site.old) cell }
-    requires holds { T.holds site.old cell }
+    requires in_range { HasCell (T.layout site.old) (T.writer site.old) at.now.cell }
+    requires holds { T.holds site.old at.now.cell }
     requires allowed { MayDeliver (T.layout site.old).names (T.writer site.old).me
-        (T.writer site.old).seen cell step }
-    ensures course { PassedSent stand (T.writer site.old) (T.writer site.new)
-        (send_admitted (T.layout site.old).limit cell (SiteFault.ShardFull dest.now shard stand)
-        (history_in (get_or (T.writer site.old).seen cell []))
-        (admitted_kinds (history_in (get_or (T.writer site.old).seen cell [])) (kinds_of step)))
+        (T.writer site.old).seen at.now.cell step }
+    ensures course { PassedSent at.now.stand (T.writer site.old) (T.writer site.new)
+        (send_admitted (T.layout site.old).limit at.now.cell (full_there at.now)
+        (history_in (get_or (T.writer site.old).seen at.now.cell []))
+        (admitted_kinds (history_in (get_or (T.writer site.old).seen at.now.cell []))
+        (kinds_of step)))
         result }
     ensures few { IfOk result (λ n. n ≤ length step) }
     ensures layout { T.layout site.new ≡ T.layout site.old }
     ensures home { T.home site.new ≡ T.home site.old }
 {
-    match site.deliver(cell, step) {
+    match site.deliver(at.cell, step) {
         Ok(admitted) => Ok(admitted),
-        Err(ShardFault::ShardFull) => Err(full_at(alloc, dest, shard, stand)),
-        Err(ShardFault::OutOfMemory) => Err(SiteFault::OutOfMemory { stand }),
+        Err(ShardFault::ShardFull) => Err(full_at(alloc, at)),
+        Err(ShardFault::OutOfMemory) => Err(SiteFault::OutOfMemory { stand: at.stand }),
     }
 }

@@ -17,8 +17,8 @@ use tuple_values::{Memory, TryCopy, Versions};
 
 /// The topic's checkpoint in what was just seen of the book, and none where it isn't bound.
 fn state_seen_over<T: Turns>(
-    site: &T,
     alloc: Global,
+    site: &T,
     key: &TopicKey,
 ) -> Result<Option<Versions>, Memory>
     requires { T.holds site.now (book_cell (T.layout site.now).names) }
@@ -33,8 +33,8 @@ fn state_seen_over<T: Turns>(
 
 /// The same, with no versions where the topic isn't bound.
 fn checkpoint_seen_over<T: Turns>(
-    site: &T,
     alloc: Global,
+    site: &T,
     key: &TopicKey,
 ) -> Result<Versions, Memory>
     requires { T.holds site.now (book_cell (T.layout site.now).names) }
@@ -49,8 +49,8 @@ fn checkpoint_seen_over<T: Turns>(
 
 /// What a topic that is bound to these values is answered for others.
 fn bind_again_over<T: Turns>(
-    site: &T,
     alloc: Global,
+    site: &T,
     key: &TopicKey,
     binding: &Binding,
     kept: &Binding,
@@ -61,15 +61,11 @@ fn bind_again_over<T: Turns>(
         0 result }
 {
     if is_alike(kept, binding) {
-        return match checkpoint_seen_over(site, alloc, key) {
-            Ok(upto) => Ok(upto),
-            Err(_) => Err(SiteFault::OutOfMemory { stand: 0 }),
-        };
+        let upto = checkpoint_seen_over(alloc, site, key)?;
+        return Ok(upto);
     }
-    match kept.copy(alloc) {
-        Ok(kept) => Err(SiteFault::TopicBound { kept }),
-        Err(_) => Err(SiteFault::OutOfMemory { stand: 0 }),
-    }
+    let kept = kept.copy(alloc)?;
+    Err(SiteFault::TopicBound { kept })
 }
 
 /// Why a Bind was refused, as the fault of a call.
@@ -85,8 +81,8 @@ fn fault_of(fault: BookFault) -> SiteFault
 
 /// A Bind of a topic that isn't bound.
 fn bind_new_over<T: Turns>(
-    site: &mut T,
     alloc: Global,
+    site: &mut T,
     key: &TopicKey,
     binding: Binding,
 ) -> Result<Versions, SiteFault>
@@ -101,9 +97,7 @@ fn bind_new_over<T: Turns>(
     ensures layout { T.layout site.new ≡ T.layout site.old }
     ensures home { T.home site.new ≡ T.home site.old }
 {
-    let Ok(copy) = key.copy(alloc) else {
-        return Err(SiteFault::OutOfMemory { stand: 0 });
-    };
+    let copy = key.copy(alloc)?;
     let by = site.number();
     match site.note(BookEntry::Bind {
         by,
@@ -113,16 +107,14 @@ fn bind_new_over<T: Turns>(
         Ok(()) => {}
         Err(fault) => return Err(fault_of(fault)),
     }
-    match checkpoint_seen_over(site, alloc, key) {
-        Ok(upto) => Ok(upto),
-        Err(_) => Err(SiteFault::OutOfMemory { stand: 0 }),
-    }
+    let upto = checkpoint_seen_over(alloc, site, key)?;
+    Ok(upto)
 }
 
 /// What is done of a Bind by what was just seen of the book.
 fn bind_seen_over<T: Turns>(
-    site: &mut T,
     alloc: Global,
+    site: &mut T,
     key: &TopicKey,
     binding: Binding,
 ) -> Result<Versions, SiteFault>
@@ -138,15 +130,15 @@ fn bind_seen_over<T: Turns>(
     ensures home { T.home site.new ≡ T.home site.old }
 {
     match site.bound(key) {
-        Some(kept) => bind_again_over(site, alloc, key, &binding, kept),
-        None => bind_new_over(site, alloc, key, binding),
+        Some(kept) => bind_again_over(alloc, site, key, &binding, kept),
+        None => bind_new_over(alloc, site, key, binding),
     }
 }
 
 /// One look at the book, and a Bind where the topic isn't bound.
 fn bind_step_over<T: Turns>(
-    site: &mut T,
     alloc: Global,
+    site: &mut T,
     key: &TopicKey,
     binding: Binding,
 ) -> Result<Versions, SiteFault>
@@ -157,22 +149,17 @@ fn bind_step_over<T: Turns>(
     ensures layout { T.layout site.new ≡ T.layout site.old }
     ensures home { T.home site.new ≡ T.home site.old }
 {
-    match site.make_room(1) {
-        Ok(()) => {}
-        Err(_) => return Err(SiteFault::OutOfMemory { stand: 0 }),
-    }
+    site.make_room(1)?;
     let book = find_book(site);
-    match site.look(book) {
-        Ok(()) => bind_seen_over(site, alloc, key, binding),
-        Err(_) => Err(SiteFault::OutOfMemory { stand: 0 }),
-    }
+    site.look(book)?;
+    bind_seen_over(alloc, site, key, binding)
 }
 
 /// Binds the topic at one look at the book; one that is bound alike stays as it is. The answer is
 /// the topic's checkpoint afterwards. The writer has no turn afterwards.
 pub fn bind_topic_over<T: Turns>(
-    site: &mut T,
     alloc: Global,
+    site: &mut T,
     key: &TopicKey,
     binding: Binding,
 ) -> Result<Versions, SiteFault>
@@ -184,15 +171,15 @@ pub fn bind_topic_over<T: Turns>(
     ensures layout { T.layout site.new ≡ T.layout site.old }
     ensures home { T.home site.new ≡ T.home site.old }
 {
-    let result = bind_step_over(site, alloc, key, binding);
+    let result = bind_step_over(alloc, site, key, binding);
     site.leave();
     result
 }
 
 /// One look at the book, and the topic's checkpoint.
 fn state_step_over<T: Turns>(
-    site: &mut T,
     alloc: Global,
+    site: &mut T,
     key: &TopicKey,
 ) -> Result<Option<Versions>, SiteFault>
     ensures course { Completed (T.writer site.old) (T.writer site.new)
@@ -201,26 +188,18 @@ fn state_step_over<T: Turns>(
     ensures home { T.home site.new ≡ T.home site.old }
     ensures later { T.later site.old site.new }
 {
-    match site.make_room(1) {
-        Ok(()) => {}
-        Err(_) => return Err(SiteFault::OutOfMemory { stand: 0 }),
-    }
+    site.make_room(1)?;
     let book = find_book(site);
-    match site.look(book) {
-        Ok(()) => {}
-        Err(_) => return Err(SiteFault::OutOfMemory { stand: 0 }),
-    }
-    match state_seen_over(site, alloc, key) {
-        Ok(state) => Ok(state),
-        Err(_) => Err(SiteFault::OutOfMemory { stand: 0 }),
-    }
+    site.look(book)?;
+    let state = state_seen_over(alloc, site, key)?;
+    Ok(state)
 }
 
 /// One look at the book: up to where the topic was delivered, and none where it isn't bound. The
 /// writer has no turn afterwards.
 pub fn topic_state_over<T: Turns>(
-    site: &mut T,
     alloc: Global,
+    site: &mut T,
     key: &TopicKey,
 ) -> Result<Option<Versions>, SiteFault>
     ensures course { Completed (T.writer site.old) (T.writer site.new)
@@ -230,15 +209,15 @@ pub fn topic_state_over<T: Turns>(
     ensures home { T.home site.new ≡ T.home site.old }
     ensures later { T.later site.old site.new }
 {
-    let result = state_step_over(site, alloc, key);
+    let result = state_step_over(alloc, site, key);
     site.leave();
     result
 }
 
 /// A Store where it raises something in what was just seen of the book.
 fn store_seen_over<T: Turns>(
-    site: &mut T,
     alloc: Global,
+    site: &mut T,
     key: &TopicKey,
     upto: Versions,
 ) -> Result<(), SiteFault>
@@ -255,9 +234,7 @@ fn store_seen_over<T: Turns>(
     if !site.raises(key, &upto) {
         return Ok(());
     }
-    let Ok(key) = key.copy(alloc) else {
-        return Err(SiteFault::OutOfMemory { stand: 0 });
-    };
+    let key = key.copy(alloc)?;
     let by = site.number();
     match site.note(BookEntry::Store { by, key, upto }) {
         Ok(()) => {}
@@ -268,8 +245,8 @@ fn store_seen_over<T: Turns>(
 
 /// One look at the book, and a Store where it raises something.
 fn store_step_over<T: Turns>(
-    site: &mut T,
     alloc: Global,
+    site: &mut T,
     key: &TopicKey,
     upto: Versions,
 ) -> Result<(), SiteFault>
@@ -280,22 +257,17 @@ fn store_step_over<T: Turns>(
     ensures layout { T.layout site.new ≡ T.layout site.old }
     ensures home { T.home site.new ≡ T.home site.old }
 {
-    match site.make_room(1) {
-        Ok(()) => {}
-        Err(_) => return Err(SiteFault::OutOfMemory { stand: 0 }),
-    }
+    site.make_room(1)?;
     let book = find_book(site);
-    match site.look(book) {
-        Ok(()) => store_seen_over(site, alloc, key, upto),
-        Err(_) => Err(SiteFault::OutOfMemory { stand: 0 }),
-    }
+    site.look(book)?;
+    store_seen_over(alloc, site, key, upto)
 }
 
 /// Stores at one look at the book up to where the topic was delivered; where that raises nothing,
 /// nothing is added. The writer has seen that it was delivered. It has no turn afterwards.
 pub fn store_topic_over<T: Turns>(
-    site: &mut T,
     alloc: Global,
+    site: &mut T,
     key: &TopicKey,
     upto: Versions,
 ) -> Result<(), SiteFault>
@@ -307,7 +279,7 @@ pub fn store_topic_over<T: Turns>(
     ensures layout { T.layout site.new ≡ T.layout site.old }
     ensures home { T.home site.new ≡ T.home site.old }
 {
-    let result = store_step_over(site, alloc, key, upto);
+    let result = store_step_over(alloc, site, key, upto);
     site.leave();
     result
 }

@@ -1,25 +1,46 @@
+use Rattle.std.proofs.Common.{◌++◌, ◌∷◌, []}
+use Rattle.exchange_rules.specs.Calls.{Completed}
+use Rattle.exchange_rules.specs.Cells.{history_in}
+use Rattle.exchange_rules.specs.Courses.{ends, looks}
+use Rattle.exchange_rules.specs.Rows.{part_of}
 use Rattle.exchange_rules.proofs.StepLemmas.{look_none, look_begun}
 use Rattle.stream_site.proofs.CutLemmas.{part_looked}
+use Rattle.stream_site.proofs.TestLemmas.{handed_on}
 use Rattle.stream_site.proofs.cut.look_part_over.Goals as goal
 
-pub returns-in-Err-clause-course : goal.returns-in-Err-clause-course
-returns-in-Err-clause-course g c =
-    look_none (g.T.Turns.writer c.args.site.now) (g.T.Turns.writer c.look.new.self) _
-    c.in-Err.ensures.err
+pub returns-in_err-look-clause-course : goal.returns-in_err-look-clause-course
+returns-in_err-look-clause-course g c =
+    let at = c.args.at.now in
+    handed_on (Completed (g.T.Turns.writer c.args.site.now) (g.T.Turns.writer c.look.new.self)
+    (looks at.cell (λ log. ends
+    (c.args.cut ++ part_of at.collection.now at.shard (history_in log) ∷ []))))
+    _ _ c.from_residual.ensures.1
+    (look_none (g.T.Turns.writer c.args.site.now) (g.T.Turns.writer c.look.new.self) _
+    c.in_err-look.ensures.err)
 
-pub returns-in-Err-snapshot-clause-course : goal.returns-in-Err-snapshot-clause-course
-returns-in-Err-snapshot-clause-course g c =
-    look_begun (g.T.Turns.writer c.args.site.now) (g.T.Turns.writer c.look.new.self) c.args.cell _
-    c.requires.seen c.in-Ok.ensures.ok
+pub returns-in_err-snapshot-clause-course : goal.returns-in_err-snapshot-clause-course
+returns-in_err-snapshot-clause-course g c =
+    let at = c.args.at.now in
+    handed_on (Completed (g.T.Turns.writer c.args.site.now) (g.T.Turns.writer c.look.new.self)
+    (looks at.cell (λ log. ends
+    (c.args.cut ++ part_of at.collection.now at.shard (history_in log) ∷ []))))
+    _ _ c.from_residual-in_err-snapshot.ensures.1
+    (look_begun (g.T.Turns.writer c.args.site.now) (g.T.Turns.writer c.look.new.self) at.cell _
+    c.requires.seen c.in_ok-look.ensures.ok)
 
-pub returns-in-Ok-with_part-clause-course : goal.returns-in-Ok-with_part-clause-course
-returns-in-Ok-with_part-clause-course g c =
+pub returns-in_err-cut-clause-course : goal.returns-in_err-cut-clause-course
+returns-in_err-cut-clause-course g c =
+    let at = c.args.at.now in
+    handed_on (Completed (g.T.Turns.writer c.args.site.now) (g.T.Turns.writer c.look.new.self)
+    (looks at.cell (λ log. ends
+    (c.args.cut ++ part_of at.collection.now at.shard (history_in log) ∷ []))))
+    _ _ c.from_residual-in_err-cut.ensures.1
+    (look_begun (g.T.Turns.writer c.args.site.now) (g.T.Turns.writer c.look.new.self) at.cell _
+    c.requires.seen c.in_ok-look.ensures.ok)
+
+pub returns-clause-course : goal.returns-clause-course
+returns-clause-course g c =
+    let at = c.args.at.now in
     part_looked (g.T.Turns.writer c.args.site.now) (g.T.Turns.writer c.look.new.self)
-    c.args.collection.now c.args.shard c.args.cell c.args.cut c.in-Ok-with_part.cut
-    c.in-Ok-snapshot.snapshot c.requires.seen c.in-Ok.ensures.ok c.in-Ok-snapshot.ensures
-    c.in-Ok-with_part.ensures
-
-pub returns-in-Err-with_part-clause-course : goal.returns-in-Err-with_part-clause-course
-returns-in-Err-with_part-clause-course g c =
-    look_begun (g.T.Turns.writer c.args.site.now) (g.T.Turns.writer c.look.new.self) c.args.cell _
-    c.requires.seen c.in-Ok.ensures.ok
+    at.collection.now at.shard at.cell c.args.cut c.in_ok-cut.cut c.in_ok-snapshot.snapshot
+    c.requires.seen c.in_ok-look.ensures.ok c.in_ok-snapshot.ensures c.in_ok-cut.ensures

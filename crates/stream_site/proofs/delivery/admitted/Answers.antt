@@ -1,4 +1,4 @@
-use Rattle.std.proofs.Common.{true, false, [], sym, ap, ◌∙◌}
+use Rattle.std.proofs.Common.{true, false, ◌∙◌}
 use Rattle.stream_site.proofs.AdmitLemmas.{admits_as, admitted_none, kept_more, kept_same}
 use Rattle.stream_site.proofs.delivery.admitted.Goals as goal
 

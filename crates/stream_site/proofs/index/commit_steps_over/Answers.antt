@@ -1,19 +1,23 @@
-use Rattle.std.proofs.Common.{[]}
+use Rattle.exchange_rules.specs.Calls.{Answered}
 use Rattle.exchange_rules.specs.Rows.{commit_course}
 use Rattle.exchange_rules.proofs.StandLemmas.{answered_of}
 use Rattle.exchange_rules.proofs.StepLemmas.{nothing_done}
 use Rattle.stream_site.proofs.MayLemmas.{answered_from}
+use Rattle.stream_site.proofs.TestLemmas.{handed_on}
 use Rattle.stream_site.proofs.index.commit_steps_over.Goals as goal
 
-pub returns-in-Ok-clause-course : goal.returns-in-Ok-clause-course
-returns-in-Ok-clause-course g c =
+pub returns-in_err-make_room-clause-course : goal.returns-in_err-make_room-clause-course
+returns-in_err-make_room-clause-course g c =
+    let course = commit_course (g.T.Turns.layout c.args.site.now) c.args.collection.now in
+    handed_on (Answered (g.T.Turns.writer c.args.site.now) (g.T.Turns.writer c.make_room.new.self)
+    course) _ _ c.from_residual.ensures.1
+    (nothing_done 0 (g.T.Turns.writer c.args.site.now) (g.T.Turns.writer c.make_room.new.self)
+    course c.make_room.ensures.writer)
+
+pub returns-clause-course : goal.returns-clause-course
+returns-clause-course g c =
     answered_from (g.T.Turns.writer c.args.site.now) (g.T.Turns.writer c.make_room.new.self)
     (g.T.Turns.writer c.settle_all_over.new.site) (g.T.Turns.layout c.args.site.now)
     (g.T.Turns.layout c.make_room.new.self) (λ l. commit_course l c.args.collection.now)
-    c.settle_all_over.result c.in-Ok.ensures.writer c.in-Ok.ensures.layout
+    c.settle_all_over.result c.make_room.ensures.writer c.make_room.ensures.layout
     (answered_of _ _ _ 0 c.settle_all_over.result c.settle_all_over.ensures.course)
-
-pub returns-in-Err-clause-course : goal.returns-in-Err-clause-course
-returns-in-Err-clause-course g c =
-    nothing_done 0 (g.T.Turns.writer c.args.site.now) (g.T.Turns.writer c.make_room.new.self) _
-    c.in-Err.ensures.writer

@@ -1,25 +1,24 @@
-use Rattle.std.proofs.Common.{◌<◌, sym, subst}
-use Rattle.topic_book.specs.Fitness.{shards_of}
-use Rattle.exchange_rules.specs.Rows.{Layout, index_course}
+use Rattle.exchange_rules.specs.Calls.{Answered}
+use Rattle.exchange_rules.specs.Rows.{index_course}
 use Rattle.exchange_rules.proofs.StepLemmas.{nothing_done}
 use Rattle.stream_site.proofs.MayLemmas.{answered_from}
+use Rattle.stream_site.proofs.TestLemmas.{handed_on}
 use Rattle.stream_site.proofs.index.index_ready_over.Goals as goal
 
-pub index_steps_over-requires-clause-known : goal.index_steps_over-requires-clause-known
-index_steps_over-requires-clause-known g c =
-    subst (λ (x : Layout). 0 < shards_of x.names c.args.collection.now)
-    (sym c.in-Ok.ensures.layout) c.requires.known
+pub returns-in_err-make_room-clause-course : goal.returns-in_err-make_room-clause-course
+returns-in_err-make_room-clause-course g c =
+    let course = index_course (g.T.Turns.layout c.args.site.now) c.args.collection.now
+    c.args.writes c.args.commit in
+    handed_on (Answered (g.T.Turns.writer c.args.site.now) (g.T.Turns.writer c.make_room.new.self)
+    course) _ _ c.from_residual.ensures.1
+    (nothing_done 0 (g.T.Turns.writer c.args.site.now) (g.T.Turns.writer c.make_room.new.self)
+    course c.make_room.ensures.writer)
 
-pub returns-in-Ok-clause-course : goal.returns-in-Ok-clause-course
-returns-in-Ok-clause-course g c =
+pub returns-clause-course : goal.returns-clause-course
+returns-clause-course g c =
     answered_from (g.T.Turns.writer c.args.site.now) (g.T.Turns.writer c.make_room.new.self)
     (g.T.Turns.writer c.index_steps_over.new.site) (g.T.Turns.layout c.args.site.now)
     (g.T.Turns.layout c.make_room.new.self)
     (λ l. index_course l c.args.collection.now c.args.writes c.args.commit)
-    c.index_steps_over.result c.in-Ok.ensures.writer c.in-Ok.ensures.layout
+    c.index_steps_over.result c.make_room.ensures.writer c.make_room.ensures.layout
     c.index_steps_over.ensures.course
-
-pub returns-in-Err-clause-course : goal.returns-in-Err-clause-course
-returns-in-Err-clause-course g c =
-    nothing_done 0 (g.T.Turns.writer c.args.site.now) (g.T.Turns.writer c.make_room.new.self) _
-    c.in-Err.ensures.writer

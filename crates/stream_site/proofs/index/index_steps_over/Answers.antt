@@ -1,106 +1,88 @@
-use Rattle.std.proofs.Common.{◌<◌, ◌^◌, length, map, refl, sym, ap, ◌∙◌, subst, arith}
-use Rattle.std.specs.Prelude.{Ok, Err}
-use Rattle.topic_book.specs.Fitness.{shards_of}
+use Rattle.std.proofs.Common.{◌<◌, ◌^◌, length, map, refl, ap, ◌∙◌, arith}
+use Rattle.exchange_rules.specs.Calls.{Answered}
+use Rattle.exchange_rules.specs.Rows.{index_course}
 use Rattle.exchange_rules.proofs.StepLemmas.{nothing_done}
-use Rattle.stream_site.specs.Shares.{AreShares, AreCounts}
-use Rattle.stream_site.proofs.ShareLemmas.{shares_counts}
-use Rattle.stream_site.proofs.UpdateLemmas.{shares_steps, writes_passed, settled_passed, index_plain, index_committed, index_refused, settle_refused}
 use Rattle.stream_site.proofs.MayLemmas.{fit_shares}
+use Rattle.stream_site.proofs.UpdateLemmas.{routed_to, routed_steps, update_committed, update_plain, update_refused, update_unsettled}
+use Rattle.stream_site.proofs.TestLemmas.{handed_on}
 use Rattle.stream_site.proofs.index.index_steps_over.Goals as goal
 
-pub returns-in-Err-clause-course : goal.returns-in-Err-clause-course
-returns-in-Err-clause-course g c =
+pub returns-in_err-steps-clause-course : goal.returns-in_err-steps-clause-course
+returns-in_err-steps-clause-course g c =
     let w = g.T.Turns.writer c.args.site.now in
-    nothing_done 0 w w _ refl
+    let course = index_course (g.T.Turns.layout c.args.site.now) c.args.collection.now
+    c.args.writes c.args.commit in
+    handed_on (Answered w w course) _ _ c.from_residual.ensures.1 (nothing_done 0 w w course refl)
 
-pub returns-in-Err-counts_of-clause-course : goal.returns-in-Err-counts_of-clause-course
-returns-in-Err-counts_of-clause-course g c =
+pub returns-in_err-counts-clause-course : goal.returns-in_err-counts-clause-course
+returns-in_err-counts-clause-course g c =
     let w = g.T.Turns.writer c.args.site.now in
-    nothing_done 0 w w _ refl
+    let course = index_course (g.T.Turns.layout c.args.site.now) c.args.collection.now
+    c.args.writes c.args.commit in
+    handed_on (Answered w w course) _ _ c.from_residual-in_err-counts.ensures.1
+    (nothing_done 0 w w course refl)
 
 pub write_all_over-requires-clause-steps : goal.write_all_over-requires-clause-steps
 write_all_over-requires-clause-steps g c =
-    let me = (g.T.Turns.writer c.args.site.now).me in
-    let n = shards_of (g.T.Turns.layout c.args.site.now).names c.args.collection.now in
-    let a = subst (λ k. AreShares me k c.args.writes c.in-Ok.steps.items) c.width-shards.ensures
-    (subst (λ k. AreShares k c.width-shards.result c.args.writes c.in-Ok.steps.items)
-    c.number.ensures c.in-Ok.ensures) in
     let few : length c.args.writes < 2 ^ 64 = omega (arith, c.len-total.ensures) in
-    shares_steps me n c.args.writes c.in-Ok.steps.items a c.requires.known few
+    routed_steps (g.T.Turns.layout c.args.site.now) c.args.collection.now
+    (g.T.Turns.writer c.args.site.now).me c.number.result c.width-shards.result c.args.writes
+    c.in_ok-steps.steps.items c.requires.known c.width-shards.ensures c.number.ensures c.in_ok-steps.ensures few
 
-pub returns-in-Err-write_all_over-clause-course : goal.returns-in-Err-write_all_over-clause-course
-returns-in-Err-write_all_over-clause-course g c =
+pub returns-in_err-write_all_over-clause-course : goal.returns-in_err-write_all_over-clause-course
+returns-in_err-write_all_over-clause-course g c =
     let l = g.T.Turns.layout c.args.site.now in
     let w = g.T.Turns.writer c.args.site.now in
-    let mid = g.T.Turns.writer c.write_all_over.new.site in
-    let some = subst (λ n. 0 < n) (sym c.width-shards.ensures) c.requires.known in
-    let written = writes_passed w mid l c.args.collection.now c.number.result
-    c.width-shards.result c.args.writes c.in-Ok.steps.items c.args.commit
-    (Err c.in-Err-write_all_over.fault)
-    c.width-shards.ensures c.in-Ok.ensures some c.in-Err-write_all_over.ensures.course in
-    index_refused w mid l c.args.collection.now c.args.writes c.args.commit
-    c.in-Err-write_all_over.fault written
+    let new = g.T.Turns.writer c.write_all_over.new.site in
+    let routed = routed_to l c.args.collection.now c.number.result c.width-shards.result
+    c.args.writes c.in_ok-steps.steps.items c.requires.known c.width-shards.ensures c.in_ok-steps.ensures in
+    handed_on (Answered w new (index_course l c.args.collection.now c.args.writes c.args.commit))
+    _ _ c.from_residual-in_err-write_all_over.ensures.1
+    (update_refused w new l c.args.collection.now c.args.writes c.in_ok-steps.steps.items c.args.commit _
+    routed c.in_err-write_all_over.ensures.course)
 
 pub returns-then-not-commit-clause-course : goal.returns-then-not-commit-clause-course
 returns-then-not-commit-clause-course g c =
     let l = g.T.Turns.layout c.args.site.now in
-    let w = g.T.Turns.writer c.args.site.now in
-    let mid = g.T.Turns.writer c.write_all_over.new.site in
-    let some = subst (λ n. 0 < n) (sym c.width-shards.ensures) c.requires.known in
-    let written = writes_passed w mid l c.args.collection.now c.number.result
-    c.width-shards.result c.args.writes c.in-Ok.steps.items c.args.commit (Ok tt)
-    c.width-shards.ensures c.in-Ok.ensures some c.in-Ok-write_all_over.ensures.course in
-    index_plain w mid l c.args.collection.now c.args.writes c.args.commit c.len-total.result
-    c.if-not-commit.true c.len-total.ensures written
-
-pub returns-in-Ok-settle_all_over-clause-course : goal.returns-in-Ok-settle_all_over-clause-course
-returns-in-Ok-settle_all_over-clause-course g c =
-    let l = g.T.Turns.layout c.args.site.now in
-    let w = g.T.Turns.writer c.args.site.now in
-    let mid = g.T.Turns.writer c.write_all_over.new.site in
-    let some = subst (λ n. 0 < n) (sym c.width-shards.ensures) c.requires.known in
-    let written = writes_passed w mid l c.args.collection.now c.number.result
-    c.width-shards.result c.args.writes c.in-Ok.steps.items c.args.commit (Ok tt)
-    c.width-shards.ensures c.in-Ok.ensures some c.in-Ok-write_all_over.ensures.course in
-    let counted = subst (AreCounts c.width-shards.result c.args.writes)
-    (sym (c.deref-2.ensures.value
-    ∙ (c.in-Ok-counts_of.ensures ∙ ap (map length) c.deref.ensures.value)))
-    (shares_counts c.number.result c.width-shards.result c.args.writes c.in-Ok.steps.items
-    c.in-Ok.ensures) in
-    let total = c.len-total.ensures in
-    let new = g.T.Turns.writer c.settle_all_over.new.site in
-    let settled = settled_passed mid new l (g.T.Turns.layout c.write_all_over.new.site)
-    c.args.collection.now c.width-shards.result c.len-total.result c.args.writes
-    c.deref-2.result.now (Ok tt) c.in-Ok-write_all_over.ensures.layout
-    c.width-shards.ensures total counted c.in-Ok-settle_all_over.ensures.course in
-    index_committed w mid new l c.args.collection.now c.args.writes c.args.commit
-    c.len-total.result c.if-not-commit.false total written settled
+    let routed = routed_to l c.args.collection.now c.number.result c.width-shards.result
+    c.args.writes c.in_ok-steps.steps.items c.requires.known c.width-shards.ensures c.in_ok-steps.ensures in
+    update_plain (g.T.Turns.writer c.args.site.now) (g.T.Turns.writer c.write_all_over.new.site)
+    l c.args.collection.now c.len-total.result c.args.writes c.in_ok-steps.steps.items c.args.commit
+    routed c.len-total.ensures c.if-not-commit.true c.in_ok-write_all_over.ensures.course
 
 pub returns-clause-course : goal.returns-clause-course
 returns-clause-course g c =
     let l = g.T.Turns.layout c.args.site.now in
+    let routed = routed_to l c.args.collection.now c.number.result c.width-shards.result
+    c.args.writes c.in_ok-steps.steps.items c.requires.known c.width-shards.ensures c.in_ok-steps.ensures in
+    update_committed (g.T.Turns.writer c.args.site.now)
+    (g.T.Turns.writer c.write_all_over.new.site) (g.T.Turns.writer c.settle_all_over.new.site)
+    l (g.T.Turns.layout c.write_all_over.new.site) c.args.collection.now c.len-total.result
+    c.args.writes c.in_ok-steps.steps.items c.deref-2.result.now c.args.commit
+    c.in_ok-write_all_over.ensures.layout routed c.len-total.ensures
+    (c.deref-2.ensures.value
+    ∙ (c.in_ok-counts.ensures ∙ ap (map length) c.deref.ensures.value)) c.if-not-commit.false
+    c.in_ok-write_all_over.ensures.course c.in_ok-settle_all_over.ensures.course
+
+pub returns-in_err-settle_all_over-clause-course : goal.returns-in_err-settle_all_over-clause-course
+returns-in_err-settle_all_over-clause-course g c =
+    let l = g.T.Turns.layout c.args.site.now in
     let w = g.T.Turns.writer c.args.site.now in
-    let mid = g.T.Turns.writer c.write_all_over.new.site in
-    let some = subst (λ n. 0 < n) (sym c.width-shards.ensures) c.requires.known in
-    let written = writes_passed w mid l c.args.collection.now c.number.result
-    c.width-shards.result c.args.writes c.in-Ok.steps.items c.args.commit (Ok tt)
-    c.width-shards.ensures c.in-Ok.ensures some c.in-Ok-write_all_over.ensures.course in
-    let counted = subst (AreCounts c.width-shards.result c.args.writes)
-    (sym (c.deref-2.ensures.value
-    ∙ (c.in-Ok-counts_of.ensures ∙ ap (map length) c.deref.ensures.value)))
-    (shares_counts c.number.result c.width-shards.result c.args.writes c.in-Ok.steps.items
-    c.in-Ok.ensures) in
-    let total = c.len-total.ensures in
     let new = g.T.Turns.writer c.settle_all_over.new.site in
-    let settled = settled_passed mid new l (g.T.Turns.layout c.write_all_over.new.site)
-    c.args.collection.now c.width-shards.result c.len-total.result c.args.writes
-    c.deref-2.result.now (Err c.in-Err-settle_all_over.fault) c.in-Ok-write_all_over.ensures.layout
-    c.width-shards.ensures total counted c.in-Err-settle_all_over.ensures.course in
-    settle_refused w mid new l c.args.collection.now c.args.writes c.args.commit
-    c.in-Err-settle_all_over.fault c.if-not-commit.false written settled
+    let routed = routed_to l c.args.collection.now c.number.result c.width-shards.result
+    c.args.writes c.in_ok-steps.steps.items c.requires.known c.width-shards.ensures c.in_ok-steps.ensures in
+    handed_on (Answered w new (index_course l c.args.collection.now c.args.writes c.args.commit))
+    _ _ c.from_residual-in_err-settle_all_over.ensures.1
+    (update_unsettled w (g.T.Turns.writer c.write_all_over.new.site) new l
+    (g.T.Turns.layout c.write_all_over.new.site) c.args.collection.now c.len-total.result
+    c.args.writes c.in_ok-steps.steps.items c.deref-2.result.now c.args.commit _
+    c.in_ok-write_all_over.ensures.layout routed c.len-total.ensures
+    (c.deref-2.ensures.value
+    ∙ (c.in_ok-counts.ensures ∙ ap (map length) c.deref.ensures.value)) c.if-not-commit.false
+    c.in_ok-write_all_over.ensures.course c.in_err-settle_all_over.ensures.course)
 
 pub write_all_over-requires-clause-fit : goal.write_all_over-requires-clause-fit
 write_all_over-requires-clause-fit g c =
     fit_shares (g.T.Turns.layout c.args.site.now).names c.args.collection.now c.number.result
-    c.width-shards.result c.args.writes c.in-Ok.steps.items c.requires.storable
-    c.width-shards.ensures c.in-Ok.ensures
+    c.width-shards.result c.args.writes c.in_ok-steps.steps.items c.requires.storable
+    c.width-shards.ensures c.in_ok-steps.ensures

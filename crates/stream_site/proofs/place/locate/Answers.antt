@@ -1,4 +1,4 @@
-use Rattle.std.proofs.Common.{arith}
+use Rattle.std.proofs.Common.{refl, arith}
 use Rattle.stream_site.proofs.PlaceLemmas.{located}
 use Rattle.stream_site.proofs.place.locate.Goals as goal
 
@@ -19,4 +19,7 @@ returns g c =
     c.from.result c.args.shard c.names.ensures.names c.as_str.ensures
     c.first_cell-first.ensures c.from.ensures c.requires c.names.ensures.cells
     c.names.ensures.few in
-    record { cell = at.is; here = at.here }
+    record {
+      spot = record { collection_is = refl; shard_is = refl; cell_is = at.is; stand_is = refl };
+      here = at.here;
+    }

@@ -1,4 +1,4 @@
-use Rattle.stream_site.proofs.PlainLemmas.{shard_long}
+use Rattle.stream_site.proofs.PlainLookLemmas.{shard_long}
 use Rattle.stream_site.proofs.plain.entries_at.Goals as goal
 
 pub returns-then-cell-shards : goal.returns-then-cell-shards

@@ -1,4 +1,4 @@
-use Rattle.std.proofs.Common.{◌≡◌, ◌<◌, [], ◌∷◌, sym, ap, ◌∙◌, subst, arith}
+use Rattle.std.proofs.Common.{◌<◌, [], sym, ap, ◌∙◌, subst, arith}
 use Rattle.tuple_values.specs.Keys.{shard_of}
 use Rattle.exchange_rules.specs.Deliveries.{sent_kinds}
 use Rattle.stream_site.specs.Shares.{AreRouted}

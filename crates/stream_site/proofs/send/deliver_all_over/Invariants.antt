@@ -1,10 +1,10 @@
 -- The steps so far are delivered, and the others are as they were.
-use Rattle.std.proofs.Common.{◌≡◌, ℕ, ◌-◌, ◌≤◌, [], get_or, length}
+use Rattle.std.proofs.Common.{◌≡◌, ◌-◌, ◌≤◌}
 use Rattle.topic_book.specs.Fitness.{shards_of}
 use Rattle.exchange_rules.specs.Calls.{Stands}
 use Rattle.exchange_rules.specs.Deliveries.{send_shards}
 use Rattle.exchange_rules.specs.Rows.{length_below}
-use Rattle.stream_site.specs.Shares.{share_in}
+use Rattle.stream_site.specs.Shares.{AreLeft, share_in}
 use Rattle.stream_site.proofs.send.deliver_all_over.Given as goal
 
 abbrev pub invariant-loop-shard : goal.invariant-loop-shard
@@ -15,8 +15,7 @@ invariant-loop-shard g l =
     record {
       same : g.T.Turns.layout l.site ≡ layout;
       home : g.T.Turns.home l.site ≡ g.T.Turns.home l.fn.site;
-      long : length l.steps.items ≡ length l.fn.steps.items;
-      rest : (s : ℕ) → l.shard ≤ s → get_or l.steps.items s [] ≡ get_or l.fn.steps.items s [];
+      left : AreLeft l.fn.steps.items l.steps.items l.shard;
       few : l.admitted ≤ length_below share l.shard;
       reached : Stands (g.T.Turns.writer l.fn.site) (g.T.Turns.writer l.site)
           (send_shards layout l.dest share 0 0 n)

@@ -3,22 +3,23 @@ use Rattle.exchange_rules.specs.Calls.{Passed}
 use Rattle.exchange_rules.specs.Cells.{history_in}
 use Rattle.exchange_rules.specs.Rows.{Layout}
 use Rattle.exchange_rules.specs.Steps.{settling}
-use Rattle.exchange_rules.specs.declared.fault.SiteFault.TheVariants.{ShardFull}
 use Rattle.exchange_rules.proofs.StepLemmas.{look_passed, nothing_done}
+use Rattle.stream_site.specs.Spots.{full_there}
 use Rattle.stream_site.proofs.step.settle_over.Goals as goal
 
 pub returns-in-Ok-clause-course : goal.returns-in-Ok-clause-course
 returns-in-Ok-clause-course g c =
     let mid = g.T.Turns.writer c.look.new.self in
     let new = g.T.Turns.writer c.settle_seen_over.new.site in
-    look_passed c.args.stand (g.T.Turns.writer c.args.site.now) mid new c.args.cell _ _
+    look_passed c.args.at.now.stand (g.T.Turns.writer c.args.site.now) mid new c.args.at.now.cell _
+    _
     c.settle_seen_over.result c.requires.seen c.in-Ok.ensures.ok
-    (subst (λ (l : Layout). Passed c.args.stand mid new
-    (settling l.limit c.args.cell (ShardFull c.args.collection.now c.args.shard c.args.stand)
-    (history_in (get_or mid.seen c.args.cell []))) 0 c.settle_seen_over.result)
+    (subst (λ (l : Layout). Passed c.args.at.now.stand mid new
+    (settling l.limit c.args.at.now.cell (full_there c.args.at.now)
+    (history_in (get_or mid.seen c.args.at.now.cell []))) 0 c.settle_seen_over.result)
     c.in-Ok.ensures.layout c.settle_seen_over.ensures.course)
 
 pub returns-in-Err-clause-course : goal.returns-in-Err-clause-course
 returns-in-Err-clause-course g c =
-    nothing_done c.args.stand (g.T.Turns.writer c.args.site.now)
+    nothing_done c.args.at.now.stand (g.T.Turns.writer c.args.site.now)
     (g.T.Turns.writer c.look.new.self) _ c.in-Err.ensures.err

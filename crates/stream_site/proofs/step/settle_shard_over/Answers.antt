@@ -2,23 +2,23 @@ use Rattle.std.proofs.Common.{sym, subst, arith}
 use Rattle.std.specs.Prelude.{Ok}
 use Rattle.exchange_rules.specs.Calls.{Stands, Passed}
 use Rattle.exchange_rules.specs.Courses.{ends}
-use Rattle.exchange_rules.specs.declared.fault.SiteFault.TheVariants.{ShardFull}
 use Rattle.exchange_rules.proofs.StandLemmas.{stands_none}
 use Rattle.exchange_rules.proofs.StepLemmas.{settle_some, settle_none}
+use Rattle.stream_site.specs.Spots.{full_there}
 use Rattle.stream_site.proofs.step.settle_shard_over.Goals as goal
 
 pub returns-then-writes-gt0-clause-course : goal.returns-then-writes-gt0-clause-course
 returns-then-writes-gt0-clause-course g c =
     let w = g.T.Turns.writer c.args.site.now in
     subst (λ p. Stands w w p (ends (Ok tt)) 0)
-    (sym (settle_some (g.T.Turns.layout c.args.site.now).limit c.args.cell c.args.writes
-    (ShardFull c.args.collection.now c.args.shard c.args.stand) (omega arith)))
+    (sym (settle_some (g.T.Turns.layout c.args.site.now).limit c.args.at.now.cell c.args.writes
+    (full_there c.args.at.now) (omega arith)))
     (stands_none w (ends (Ok tt)))
 
 pub returns-clause-course : goal.returns-clause-course
 returns-clause-course g c =
-    subst (λ p. Passed c.args.stand (g.T.Turns.writer c.args.site.now)
+    subst (λ p. Passed c.args.at.now.stand (g.T.Turns.writer c.args.site.now)
     (g.T.Turns.writer c.settle_over.new.site) p 0 c.settle_over.result)
-    (sym (settle_none (g.T.Turns.layout c.args.site.now).limit c.args.cell c.args.writes
-    (ShardFull c.args.collection.now c.args.shard c.args.stand) (omega arith)))
+    (sym (settle_none (g.T.Turns.layout c.args.site.now).limit c.args.at.now.cell c.args.writes
+    (full_there c.args.at.now) (omega arith)))
     c.settle_over.ensures.course

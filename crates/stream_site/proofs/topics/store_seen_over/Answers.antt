@@ -1,7 +1,9 @@
 use Rattle.std.proofs.Common.{refl, sym, ◌∙◌}
-use Rattle.exchange_rules.specs.Bindings.{book_seen}
+use Rattle.exchange_rules.specs.Bindings.{book_seen, store_seen}
+use Rattle.exchange_rules.specs.Calls.{Passed}
 use Rattle.exchange_rules.proofs.BindingLemmas.{store_nothing}
 use Rattle.exchange_rules.proofs.StepLemmas.{nothing_done}
+use Rattle.stream_site.proofs.TestLemmas.{handed_on}
 use Rattle.stream_site.proofs.TopicLemmas.{may_store, stored_stands}
 use Rattle.stream_site.proofs.topics.store_seen_over.Goals as goal
 
@@ -12,16 +14,18 @@ returns-then-not-raises-clause-course g c =
     store_nothing w l.names c.args.key.now c.args.upto (book_seen l w)
     (sym c.raises.ensures ∙ c.if-not-raises.true)
 
-pub returns-in_default-clause-course : goal.returns-in_default-clause-course
-returns-in_default-clause-course g c =
+pub returns-in_err-key-clause-course : goal.returns-in_err-key-clause-course
+returns-in_err-key-clause-course g c =
+    let l = g.T.Turns.layout c.args.site.now in
     let w = g.T.Turns.writer c.args.site.now in
-    nothing_done 0 w w _ refl
+    let course = store_seen l.names c.args.key.now c.args.upto (book_seen l w) in
+    handed_on (Passed 0 w w course 0) _ _ c.from_residual.ensures.1 (nothing_done 0 w w course refl)
 
 pub note-requires-clause-allowed : goal.note-requires-clause-allowed
 note-requires-clause-allowed g c =
     let w = g.T.Turns.writer c.args.site.now in
     may_store (g.T.Turns.layout c.args.site.now).names w.me c.number-by.result w.seen
-    c.args.key.now c.in-Ok.key c.args.upto c.number-by.ensures c.in-Ok.ensures
+    c.args.key.now c.in_ok-key.key c.args.upto c.number-by.ensures c.in_ok-key.ensures
     c.requires.delivered (sym c.raises.ensures ∙ c.if-not-raises.false)
 
 pub returns-clause-course : goal.returns-clause-course
@@ -29,8 +33,8 @@ returns-clause-course g c =
     let l = g.T.Turns.layout c.args.site.now in
     let w = g.T.Turns.writer c.args.site.now in
     stored_stands w (g.T.Turns.writer c.note.new.self) l.names c.number-by.result c.args.key.now
-    c.in-Ok.key c.args.upto (book_seen l w) (sym c.raises.ensures ∙ c.if-not-raises.false)
-    c.requires.in_range c.in-Ok.ensures c.in-Ok-note.ensures.ok
+    c.in_ok-key.key c.args.upto (book_seen l w) (sym c.raises.ensures ∙ c.if-not-raises.false)
+    c.requires.in_range c.in_ok-key.ensures c.in-Ok.ensures.ok
 
 pub returns-in-Err-clause-course : goal.returns-in-Err-clause-course
 returns-in-Err-clause-course g c =

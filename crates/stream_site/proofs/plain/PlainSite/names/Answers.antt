@@ -3,7 +3,7 @@ use Rattle.std.specs.List.{AllByRecursion}
 use Rattle.exchange_rules.specs.Cells.{author_of}
 use Rattle.exchange_rules.specs.declared.log_entry.LogEntry.TheVariants as logged
 use Rattle.stream_site.specs.Plains.{Plain}
-use Rattle.stream_site.proofs.PlainLemmas.{alone_at}
+use Rattle.stream_site.proofs.PlainOwnLemmas.{alone_at}
 use Rattle.stream_site.proofs.plain.PlainSite.names.Goals as goal
 
 pub returns-clause-alone : goal.returns-clause-alone

@@ -1,7 +1,7 @@
 use Rattle.std.proofs.Common.{refl, sym, ap, ◌∙◌}
 use Rattle.topic_book.specs.Books.{binding_of}
 use Rattle.stream_site.specs.Sites.{plain_in}
-use Rattle.stream_site.proofs.PlainLemmas.{plain_book}
+use Rattle.stream_site.proofs.PlainBookLemmas.{plain_book}
 use Rattle.stream_site.proofs.plain.PlainSiteTurns.bound.Goals as goal
 
 pub returns : goal.returns

@@ -1,8 +1,7 @@
-use Rattle.std.proofs.Common.{◌≡◌, ◌<◌, [], length, get_or, sym, ap, ◌∙◌, subst, refl, arith}
-use Rattle.std.specs.Prelude.{true, false, Ok, Err}
+use Rattle.std.proofs.Common.{◌<◌, length, ap, ◌∙◌, arith}
 use Rattle.topic_book.specs.Cells.{cells_in}
 use Rattle.stream_site.specs.Plains.{Plain}
-use Rattle.stream_site.proofs.DeliverLemmas.{IsDone, IsEmpty, done_of, empty_of, IsKeptHere, kept_here}
+use Rattle.stream_site.proofs.DeliverLemmas.{done_of, empty_of, kept_here}
 use Rattle.stream_site.proofs.TestLemmas.{err_again, not_true, ok_is_no_err}
 use Rattle.stream_site.proofs.plain.PlainSiteTurns.deliver.Goals as goal
 

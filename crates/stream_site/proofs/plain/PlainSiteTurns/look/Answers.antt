@@ -1,10 +1,10 @@
-use Rattle.std.proofs.Common.{◌<◌, ◌≤◌, ◌+◌, ◌≡◌, length, map, set, sym, ap, ◌∙◌, subst, refl, arith, get_or, []}
+use Rattle.std.proofs.Common.{◌<◌, ◌+◌, length, map, set, ap, ◌∙◌, subst, refl, get_or, []}
 use Rattle.std.proofs.lemmas.List.{get_or_default}
 use Rattle.shard_versions.specs.Shards.{Shard}
 use Rattle.exchange_rules.specs.Primitives.{LooksAt}
 use Rattle.stream_site.specs.Plains.{Plain, logs_in, writer_of}
 use Rattle.stream_site.specs.Sites.{plain_in}
-use Rattle.stream_site.proofs.PlainLemmas.{look_place, plain_looked}
+use Rattle.stream_site.proofs.PlainLookLemmas.{look_place, plain_looked}
 use Rattle.stream_site.proofs.plain.PlainSiteTurns.look.Goals as goal
 
 pub returns-clause-ok : goal.returns-clause-ok

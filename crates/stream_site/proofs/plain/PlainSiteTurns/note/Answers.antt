@@ -7,7 +7,8 @@ use Rattle.exchange_rules.specs.Cells.{deed_of}
 use Rattle.exchange_rules.specs.Primitives.{made}
 use Rattle.stream_site.specs.Plains.{Plain, writer_of}
 use Rattle.stream_site.specs.Sites.{plain_in}
-use Rattle.stream_site.proofs.PlainLemmas.{histories_of, plain_book, plain_noted}
+use Rattle.stream_site.proofs.PlainLemmas.{histories_of}
+use Rattle.stream_site.proofs.PlainBookLemmas.{plain_book, plain_noted}
 use Rattle.stream_site.proofs.TopicLemmas.{plain_note}
 use Rattle.stream_site.proofs.plain.PlainSiteTurns.note.Goals as goal
 
