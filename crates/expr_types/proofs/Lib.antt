@@ -1,4 +1,5 @@
 pub mod TreeLemmas
 pub mod GroupLemmas
 pub mod OrderLemmas
-pub mod SourceLemmas
+pub mod PlannedLemmas
+pub mod CopyLemmas

@@ -1,8 +1,9 @@
 -- An expression's inputs, one after another.
-use Rattle.std.proofs.Common.{◌≡◌, ℕ, zero, suc, ◌+◌, ◌<◌, ◌≤◌, max, List, [], ◌∷◌, length, get_or}
-use Rattle.std.proofs.Common.{map, refl, ap, arith}
+use Rattle.std.proofs.Common.{◌≡◌, ℕ, zero, suc, ◌<◌, ◌≤◌, List, [], ◌∷◌, length, get_or}
+use Rattle.std.proofs.Common.{refl, ap, arith}
 use Rattle.expr_types.specs.ExprTree.{ExprTree, node, ExprTrees, no_exprs, an_expr, inputs_of}
-use Rattle.expr_types.specs.ExprTree.{expr_list, operator_in, inputs_in, height, heights}
+use Rattle.expr_types.specs.ExprTree.{expr_list, operator_in, inputs_in}
+use Rattle.expr_types.specs.Heights.{height, heights}
 
 -- the inputs of a list are that list
 pub expr_list-inputs_of : (exprs : List ExprTree) → expr_list (inputs_of exprs) ≡ exprs

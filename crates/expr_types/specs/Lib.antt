@@ -1,10 +1,13 @@
 pub mod ConditionTree
 pub mod ConditionViews
 pub mod ExprTree
-pub mod ExprViews
+pub mod Heights
 pub mod Sources
 pub mod Orders
 pub mod Conditions
 pub mod Rows
 pub mod Groups
+pub mod Rules
+pub mod Parts
 pub mod Lists
+pub mod Planned

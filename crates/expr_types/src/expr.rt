@@ -1,7 +1,8 @@
 // What an expression asks for.
 ghost use Rattle.std.specs.Prelude.{◌≡◌, ◌<◌, length, slice_index_or};
-ghost use Rattle.expr_types.specs.ExprTree.{ExprTree, height, inputs_in};
-ghost use Rattle.expr_types.specs.ExprViews.{expr_tree};
+ghost use Rattle.expr_types.specs.ExprTree.{ExprTree, inputs_in};
+ghost use Rattle.expr_types.specs.Heights.{height};
+ghost use Rattle.expr_types.specs.ExprTree.{expr_tree};
 
 use crate::{Condition, GroupOp, Items, Metrics};
 use query_syntax::Query;

@@ -2,8 +2,10 @@
 #![tactic(auto)]
 
 mod condition;
+mod copying;
 mod expr;
 mod item;
+mod source_copies;
 #[cfg(test)]
 mod tests;
 

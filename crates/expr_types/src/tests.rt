@@ -34,6 +34,18 @@ fn a_condition_is_copied(rt: HostRuntime) -> Result<(), Fail> {
     Ok(())
 }
 
+#[test]
+fn an_expression_is_copied(rt: HostRuntime) -> Result<(), Fail> {
+    let alloc = rt.alloc();
+    let fields = Tuple::empty(alloc);
+    let input = Box::new(alloc, Expr::Tuple { fields })?;
+    let by = read_sort(alloc, "a asc")?;
+    let copy = Expr::Sort { input, by }.copy(alloc)?;
+    let same = matches!(&copy, Expr::Sort { by, .. } if by.len() == 1);
+    assert!(rt; same);
+    Ok(())
+}
+
 fn is_sent<T: Send>(_: &T) {}
 
 #[test]

@@ -1,7 +1,7 @@
 use Rattle.std.proofs.Common.{◌≡◌, List, length, map, ap, sym, ◌∙◌}
 use Rattle.std.proofs.lemmas.List.{length-map}
 use Rattle.expr_types.specs.ExprTree.{ExprTree, node, merge, inputs_of, inputs_in}
-use Rattle.expr_types.specs.ExprViews.{expr_tree, expr_step}
+use Rattle.expr_types.specs.ExprTree.{expr_tree, expr_step}
 use Rattle.expr_types.specs.declared.expr.Expr.TheVariants as expr
 use Rattle.expr_types.specs.declared.expr.Expr.TheFolds.{fold-roll-Expr}
 use Rattle.expr_types.specs.declared.expr.Expr.TheOpen.{Expr-F}

@@ -1,0 +1,150 @@
+-- What is so of each function, in one row of a table (Solr Reference Guide, "Stream Source
+-- Reference" and "Stream Decorator Reference"; limits own).
+use Rattle.std.specs.Prelude.{ℕ, ◌≡◌, ◌==◌, nat_le, List, [], ◌∷◌, codes}
+use Rattle.std.specs.Prelude.{Bool, true, false, not, ◌&&◌, Option, Some, None, Ok}
+use Rattle.std.specs.List.{AllByRecursion, list_all}
+use Rattle.tuple_values.specs.Document.{ByteList, Doc, is_named}
+use Rattle.query_syntax.specs.Reading.{read_of}
+use Rattle.sort_spec.specs.Sorting.{IsAscending}
+use Rattle.sort_spec.specs.Terms.{less}
+use Rattle.expr_types.specs.Sources.{search_list}
+use Rattle.expr_types.specs.Orders.{sort_list, top_list, merge_list, IsSortedOver}
+use Rattle.expr_types.specs.Conditions.{having_list}
+use Rattle.expr_types.specs.Rows.{select_list}
+use Rattle.expr_types.specs.Groups.{unique_list, reduce_list, rollup_list, metric_name}
+use Rattle.expr_types.specs.ExprTree.{Operator, search, tuple, select, having, sort, top, unique}
+use Rattle.expr_types.specs.ExprTree.{merge, reduce, rollup, inner_join, left_outer_join, intersect}
+use Rattle.expr_types.specs.ExprTree.{complement, hash_join, outer_hash_join, in_parallel, topic}
+use Rattle.expr_types.specs.ExprTree.{update, commit, daemon, first_or, SearchParts, TopicParts}
+
+-- the documents of each collection, by its name
+abbrev pub Collections : Type 0
+Collections = ByteList → List Doc
+
+-- the greatest number of tuples that `top` and `group` may be asked for
+abbrev pub count_limit : ℕ
+count_limit = 1000000
+
+-- the greatest number of rows
+abbrev pub row_limit : ℕ
+row_limit = 9223372036854775807
+
+-- whether a number is within limits
+abbrev pub is_between : ℕ → ℕ → ℕ → Bool
+is_between low high n = nat_le low n && nat_le n high
+
+-- whether a number that may be left out is within limits
+abbrev pub may_be_between : ℕ → ℕ → Option ℕ → Bool
+may_be_between low high None = true
+may_be_between low high (Some n) = is_between low high n
+
+-- what a function takes from elsewhere than its inputs
+pub data Source : Type 0 where
+  searched : SearchParts → Source
+  literal : Doc → Source
+  followed : TopicParts → Source
+  no_source : Source
+
+-- a row of the table
+pub record Rule : Type 1 where
+  -- what it gives of the lists of its inputs, over the documents of collections
+  pub gives : Collections → List (List Doc) → List Doc
+  -- the lists of its inputs are in the order that it needs
+  pub Needs : List (List Doc) → Type 0
+  -- whether a plan gives it over as many inputs
+  pub is_well : ℕ → Bool
+  -- what it takes from elsewhere than its inputs
+  pub source : Source
+
+-- what goes once over one input, in whatever order
+abbrev pub of_one : (List Doc → List Doc) → Rule
+of_one work = record {
+  gives = λ docs lists. work (first_or [] lists);
+  Needs = λ lists. Unit {0};
+  is_well = λ inputs. inputs == 1;
+  source = no_source;
+}
+
+-- what needs its inputs sorted over names
+abbrev pub sorted_over : List ByteList → Rule → Rule
+sorted_over names rule =
+    record rule { Needs = λ lists. AllByRecursion (IsSortedOver names) lists }
+
+-- what a plan gives with such parameters alone
+abbrev pub only_where : Bool → Rule → Rule
+only_where fits rule = record rule { is_well = λ inputs. rule.is_well inputs && fits }
+
+-- what no plan gives yet, and no stream stands for
+abbrev pub not_yet : Rule
+not_yet = record {
+  gives = λ docs lists. [];
+  Needs = λ lists. ⊥;
+  is_well = λ inputs. false;
+  source = no_source;
+}
+
+-- the table
+abbrev pub rule_of : Operator → Rule
+rule_of (search p) = record {
+  gives = λ docs lists. search_list p (docs p.collection);
+  Needs = λ lists. Unit {0};
+  is_well = λ inputs. inputs == 0 && may_be_between 0 row_limit p.rows;
+  source = searched p;
+}
+rule_of (tuple fields) = record {
+  gives = λ docs lists. fields ∷ [];
+  Needs = λ lists. Unit {0};
+  is_well = λ inputs. inputs == 0;
+  source = literal fields;
+}
+rule_of (select items) = of_one (select_list items)
+rule_of (having condition) = of_one (having_list condition)
+rule_of (sort by) = of_one (sort_list by)
+rule_of (top n by) = only_where (is_between 1 count_limit n) (of_one (top_list n by))
+rule_of (unique over) = sorted_over over (of_one (unique_list over))
+rule_of (merge on) = record {
+  gives = λ docs lists. merge_list on lists;
+  Needs = λ lists. AllByRecursion (IsAscending (less on)) lists;
+  is_well = λ inputs. nat_le 2 inputs;
+  source = no_source;
+}
+rule_of (reduce by op) =
+    only_where (not (is_named (codes "group") by))
+    (only_where (is_between 1 count_limit op.n) (sorted_over by (of_one (reduce_list by op))))
+rule_of (rollup over metrics) =
+    only_where (list_all (λ m. not (is_named (metric_name m) over)) metrics)
+    (sorted_over over (of_one (rollup_list over metrics)))
+rule_of (inner_join on) = not_yet
+rule_of (left_outer_join on) = not_yet
+rule_of (intersect on) = not_yet
+rule_of (complement on) = not_yet
+rule_of (hash_join on) = not_yet
+rule_of (outer_hash_join on) = not_yet
+rule_of (in_parallel collection workers by) = not_yet
+rule_of (topic p) = record not_yet { source = followed p }
+rule_of (update dest size) = not_yet
+rule_of (commit dest size) = not_yet
+rule_of (daemon id interval terminate) = not_yet
+
+-- what an operator gives of the lists of its inputs
+abbrev pub given : Collections → Operator → List (List Doc) → List Doc
+given docs op lists = (rule_of op).gives docs lists
+
+-- the lists of the inputs are in the order that an operator needs
+abbrev pub AreAsNeeded : Operator → List (List Doc) → Type 0
+AreAsNeeded op lists = (rule_of op).Needs lists
+
+-- whether a plan gives an operator over as many inputs
+abbrev pub is_well : Operator → ℕ → Bool
+is_well op inputs = (rule_of op).is_well inputs
+
+-- what is kept of a text is what the text is read as
+abbrev pub IsReadAs : Source → Type 0
+IsReadAs (searched p) = Unit {0}
+IsReadAs (literal fields) = Unit {0}
+IsReadAs (followed p) = read_of p.q_text ≡ Ok p.q
+IsReadAs no_source = Unit {0}
+
+-- what an operator keeps of a text is read from it
+abbrev pub IsRead : Operator → Type 0
+IsRead op = IsReadAs (rule_of op).source
