@@ -10,12 +10,16 @@ use Rattle.expr_types.specs.ExprTree.{merge, reduce, rollup, inner_join, left_ou
 use Rattle.expr_types.specs.ExprTree.{complement, hash_join, outer_hash_join, in_parallel, topic}
 use Rattle.expr_types.specs.ExprTree.{update, commit, daemon}
 use Rattle.expr_types.specs.ExprTree.{ExprTree, node, ExprTrees, no_exprs, an_expr}
-use Rattle.expr_check.specs.Orders.{orders_of}
+use Rattle.expr_check.specs.Walk.{orders_of}
 use Rattle.expr_check.specs.Needs.{meets_sort, meets_names}
-use Rattle.expr_check.specs.Faults.{field_outside, field_fault, order_fault, search_fault}
-use Rattle.expr_check.specs.Faults.{names_fault, sort_fault, fault_at, fault_where, faults_where}
-use Rattle.expr_check.specs.Faults.{own_fault, names_text, sort_text}
-use Rattle.expr_check.specs.Reads.{named_by, named_in, all_named}
+use Rattle.expr_check.specs.Faults.{field_outside, field_fault, order_fault}
+use Rattle.expr_check.specs.Faults.{names_fault, sort_fault}
+use Rattle.expr_check.specs.Rules.{fault_at}
+use Rattle.expr_check.specs.Walk.{fault_where, faults_where}
+use Rattle.expr_check.specs.Walk.{own_fault}
+use Rattle.expr_check.specs.Faults.{names_text, sort_text}
+use Rattle.expr_check.specs.Rules.{named_by}
+use Rattle.expr_check.specs.Walk.{named_in, all_named}
 use Rattle.expr_check.proofs.NeedLemmas.{and_first, and_second}
 use Rattle.expr_check.specs.declared.order.Order.{Order}
 use Rattle.expr_check.specs.declared.fault.CheckFault.{CheckFault}

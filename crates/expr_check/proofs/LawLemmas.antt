@@ -1,6 +1,6 @@
 -- A checked expression's inputs are in the order that their functions need, and what it gives is in
 -- its order.
-use Rattle.std.proofs.Common.{◌≡◌, ℕ, ◌≤◌, List, [], ◌∷◌, ◌++◌, true, false, not}
+use Rattle.std.proofs.Common.{◌≡◌, ℕ, ◌≤◌, ◌==◌, List, [], ◌∷◌, ◌++◌, true, false, not, ◌&&◌}
 use Rattle.std.proofs.Common.{Option, Some, None, length, map, filter, refl, sym, ◌∙◌, ap}
 use Rattle.std.proofs.Common.{arith, codes, subst}
 use Rattle.std.specs.Prelude.{bytes_eq, flat_map}
@@ -18,24 +18,29 @@ use Rattle.expr_types.specs.ExprTree.{Operator, search, tuple, select, having, s
 use Rattle.expr_types.specs.ExprTree.{merge, reduce, rollup, inner_join, left_outer_join, intersect}
 use Rattle.expr_types.specs.ExprTree.{complement, hash_join, outer_hash_join, in_parallel, topic}
 use Rattle.expr_types.specs.ExprTree.{update, commit, daemon, first_or, SearchParts}
-use Rattle.expr_types.specs.ExprTree.{ExprTree, node, ExprTrees, no_exprs, an_expr}
+use Rattle.expr_types.specs.ExprTree.{ExprTree, node, ExprTrees, no_exprs, an_expr, expr_list}
 use Rattle.expr_types.specs.Groups.{same_key, firsts, groups, unique_list, reduced, reduce_list}
 use Rattle.expr_types.specs.Groups.{rolled}
 use Rattle.expr_types.specs.Groups.{rollup_list, metric_name}
-use Rattle.expr_types.specs.Lists.{Collections, given, list_of, lists_of, AreAsNeeded, AreSorted}
-use Rattle.expr_types.specs.Lists.{AreAllSorted, keeps_keys, are_kept, all_kept}
+use Rattle.expr_types.specs.Rules.{Collections, given, AreAsNeeded}
+use Rattle.expr_types.specs.Lists.{list_of, lists_of, AreSorted}
+use Rattle.expr_types.specs.Lists.{AreAllSorted}
 use Rattle.expr_types.specs.Orders.{IsSortedOver}
+use Rattle.expr_types.specs.Rules.{is_well, is_between, count_limit}
+use Rattle.expr_types.specs.Planned.{AreWell, AreAllWell}
 use Rattle.expr_types.specs.Rows.{selected, select_list}
 use Rattle.expr_types.specs.Sources.{cut_to, first_rows, then_by_id, found_rows, search_list}
 use Rattle.expr_types.specs.declared.item.GroupOp.{GroupOp}
 use Rattle.expr_types.specs.declared.item.Item.{Item}
 use Rattle.expr_types.specs.declared.item.Metric.{Metric}
 use Rattle.expr_types.proofs.OrderLemmas.{ascends_by_first}
-use Rattle.expr_check.specs.Orders.{IsInOrder, kept_order, kept_terms, first_terms, order_given}
-use Rattle.expr_check.specs.Orders.{order_of, orders_of}
+use Rattle.expr_check.specs.Orders.{IsInOrder, kept_order, kept_terms, first_terms}
+use Rattle.expr_check.specs.Rules.{order_given}
+use Rattle.expr_check.specs.Walk.{order_of, orders_of}
 use Rattle.expr_check.specs.Needs.{names_first, meets_sort, meets_names}
-use Rattle.expr_check.specs.Faults.{search_fault, names_fault, sort_fault, first_fault, fault_at}
-use Rattle.expr_check.specs.Faults.{fault_where, faults_where, own_fault}
+use Rattle.expr_check.specs.Faults.{names_fault, sort_fault, first_fault}
+use Rattle.expr_check.specs.Rules.{fault_at}
+use Rattle.expr_check.specs.Walk.{faults_where, own_fault}
 use Rattle.expr_check.proofs.FaultLemmas.{none_first, none_second, names_met, sort_met, fields_met}
 use Rattle.expr_check.specs.declared.order.Order.{Order}
 use Rattle.expr_check.specs.declared.order.Order.TheVariants.{Any, By}
@@ -261,74 +266,76 @@ all_ascend on (o ∷ os) (l ∷ ls) e a = (
 )
 
 -- where an operator has no fault, the lists of its inputs are in the order that it needs
-needs_hold : (op : Operator) (orders : List Order) (lists : List (List Doc))
-    → keeps_keys op ≡ true → fault_at (λ name. true) op orders ≡ None → AreInOrder orders lists
+needs_hold : (op : Operator) (n : ℕ) (orders : List Order) (lists : List (List Doc))
+    → is_well op n ≡ true → fault_at (λ name. true) op orders ≡ None → AreInOrder orders lists
     → AreAsNeeded op lists
-needs_hold (search p) orders lists k e a = tt
-needs_hold (tuple fields) orders lists k e a = tt
-needs_hold (select items) orders lists k e a = tt
-needs_hold (having condition) orders lists k e a = tt
-needs_hold (sort by) orders lists k e a = tt
-needs_hold (top n by) orders lists k e a = tt
-needs_hold (unique over) orders lists k e a =
+needs_hold (search p) many orders lists k e a = tt
+needs_hold (tuple fields) many orders lists k e a = tt
+needs_hold (select items) many orders lists k e a = tt
+needs_hold (having condition) many orders lists k e a = tt
+needs_hold (sort by) many orders lists k e a = tt
+needs_hold (top n by) many orders lists k e a = tt
+needs_hold (unique over) many orders lists k e a =
     all_sorted_over (codes "unique") over orders lists e a
-needs_hold (merge on) orders lists k e a = all_ascend on orders lists e a
-needs_hold (reduce by op) orders lists k e a =
+needs_hold (merge on) many orders lists k e a = all_ascend on orders lists e a
+needs_hold (reduce by op) many orders lists k e a =
     all_sorted_over (codes "reduce") by orders lists e a
-needs_hold (rollup over metrics) orders lists k e a =
+needs_hold (rollup over metrics) many orders lists k e a =
     all_sorted_over (codes "rollup") over orders lists e a
-needs_hold (inner_join on) orders lists k e a = absurd (cc)
-needs_hold (left_outer_join on) orders lists k e a = absurd (cc)
-needs_hold (intersect on) orders lists k e a = absurd (cc)
-needs_hold (complement on) orders lists k e a = absurd (cc)
-needs_hold (hash_join on) orders lists k e a = absurd (cc)
-needs_hold (outer_hash_join on) orders lists k e a = absurd (cc)
-needs_hold (in_parallel collection workers by) orders lists k e a = absurd (cc)
-needs_hold (topic p) orders lists k e a = absurd (cc)
-needs_hold (update dest size) orders lists k e a = absurd (cc)
-needs_hold (commit dest size) orders lists k e a = absurd (cc)
-needs_hold (daemon id interval terminate) orders lists k e a = absurd (cc)
+needs_hold (inner_join on) many orders lists k e a = absurd (cc)
+needs_hold (left_outer_join on) many orders lists k e a = absurd (cc)
+needs_hold (intersect on) many orders lists k e a = absurd (cc)
+needs_hold (complement on) many orders lists k e a = absurd (cc)
+needs_hold (hash_join on) many orders lists k e a = absurd (cc)
+needs_hold (outer_hash_join on) many orders lists k e a = absurd (cc)
+needs_hold (in_parallel collection workers by) many orders lists k e a = absurd (cc)
+needs_hold (topic p) many orders lists k e a = absurd (cc)
+needs_hold (update dest size) many orders lists k e a = absurd (cc)
+needs_hold (commit dest size) many orders lists k e a = absurd (cc)
+needs_hold (daemon id interval terminate) many orders lists k e a = absurd (cc)
 
 -- and what it gives is in its order
-given_in_order : (docs : Collections) (op : Operator) (orders : List Order)
-    (lists : List (List Doc)) → keeps_keys op ≡ true → fault_at (λ name. true) op orders ≡ None
+given_in_order : (docs : Collections) (op : Operator) (n : ℕ) (orders : List Order)
+    (lists : List (List Doc)) → is_well op n ≡ true → fault_at (λ name. true) op orders ≡ None
     → AreInOrder orders lists → IsInOrder (order_given op orders) (given docs op lists)
-given_in_order docs (search p) orders lists k e a =
+given_in_order docs (search p) many orders lists k e a =
     search_ascends p (docs p.collection) (fields_met p.fl p.sort e)
-given_in_order docs (tuple fields) orders lists k e a = omega arith
-given_in_order docs (select items) orders lists k e a =
+given_in_order docs (tuple fields) many orders lists k e a = omega arith
+given_in_order docs (select items) many orders lists k e a =
     select_in_order items (first_or Any orders) (first_or [] lists)
     (first_in_order orders lists a)
-given_in_order docs (having condition) orders lists k e a =
+given_in_order docs (having condition) many orders lists k e a =
     having_in_order condition (first_or Any orders) (first_or [] lists)
     (first_in_order orders lists a)
-given_in_order docs (sort by) orders lists k e a = sorted_ascends by (first_or [] lists)
-given_in_order docs (top n by) orders lists k e a =
+given_in_order docs (sort by) many orders lists k e a = sorted_ascends by (first_or [] lists)
+given_in_order docs (top n by) many orders lists k e a =
     ascends_take (less by) n (ins_sort (less by) (first_or [] lists))
     (sorted_ascends by (first_or [] lists))
-given_in_order docs (unique over) orders lists k e a =
+given_in_order docs (unique over) many orders lists k e a =
     unique_in_order over (first_or Any orders) (first_or [] lists)
     (first_in_order orders lists a)
-given_in_order docs (merge on) orders lists k e a =
+given_in_order docs (merge on) many orders lists k e a =
     sorted_ascends on (flat_map (λ l. l) lists)
-given_in_order docs (reduce by op) orders lists k e a =
+given_in_order docs (reduce by op) many orders lists k e a =
     reduce_in_order by op (first_or Any orders) (first_or [] lists)
-    (is_false (is_named (codes "group") by) k)
+    (is_false (is_named (codes "group") by)
+    (and_second (many == 1 && is_between 1 count_limit op.n) (not (is_named (codes "group") by)) k))
     (first_meets (codes "reduce") by orders e) (first_in_order orders lists a)
-given_in_order docs (rollup over metrics) orders lists k e a =
-    rollup_in_order over metrics (first_or Any orders) (first_or [] lists) k
+given_in_order docs (rollup over metrics) many orders lists k e a =
+    rollup_in_order over metrics (first_or Any orders) (first_or [] lists)
+    (and_second (many == 1) (list_all (λ m. not (is_named (metric_name m) over)) metrics) k)
     (first_meets (codes "rollup") over orders e) (first_in_order orders lists a)
-given_in_order docs (inner_join on) orders lists k e a = absurd (cc)
-given_in_order docs (left_outer_join on) orders lists k e a = absurd (cc)
-given_in_order docs (intersect on) orders lists k e a = absurd (cc)
-given_in_order docs (complement on) orders lists k e a = absurd (cc)
-given_in_order docs (hash_join on) orders lists k e a = absurd (cc)
-given_in_order docs (outer_hash_join on) orders lists k e a = absurd (cc)
-given_in_order docs (in_parallel collection workers by) orders lists k e a = absurd (cc)
-given_in_order docs (topic p) orders lists k e a = absurd (cc)
-given_in_order docs (update dest size) orders lists k e a = absurd (cc)
-given_in_order docs (commit dest size) orders lists k e a = absurd (cc)
-given_in_order docs (daemon id interval terminate) orders lists k e a = absurd (cc)
+given_in_order docs (inner_join on) many orders lists k e a = absurd (cc)
+given_in_order docs (left_outer_join on) many orders lists k e a = absurd (cc)
+given_in_order docs (intersect on) many orders lists k e a = absurd (cc)
+given_in_order docs (complement on) many orders lists k e a = absurd (cc)
+given_in_order docs (hash_join on) many orders lists k e a = absurd (cc)
+given_in_order docs (outer_hash_join on) many orders lists k e a = absurd (cc)
+given_in_order docs (in_parallel collection workers by) many orders lists k e a = absurd (cc)
+given_in_order docs (topic p) many orders lists k e a = absurd (cc)
+given_in_order docs (update dest size) many orders lists k e a = absurd (cc)
+given_in_order docs (commit dest size) many orders lists k e a = absurd (cc)
+given_in_order docs (daemon id interval terminate) many orders lists k e a = absurd (cc)
 
 -- both facts of an expression
 abbrev pub Holds : Collections → ExprTree → Type 0
@@ -339,28 +346,27 @@ abbrev pub HoldAll : Collections → ExprTrees → Type 0
 HoldAll docs ts = AreAllSorted docs ts × AreInOrder (orders_of ts) (lists_of docs ts)
 
 mutual
-  -- they hold of an expression that keeps its keys and has no fault
-  pub holds_of : (docs : Collections) (t : ExprTree) → are_kept t ≡ true → own_fault t ≡ None
+  -- they hold of an expression that a plan gives and that has no fault
+  pub holds_of : (docs : Collections) (t : ExprTree) → AreWell t → own_fault t ≡ None
       → Holds docs t
-  holds_of docs (node op inputs) k e =
-      let here = and_first (keeps_keys op) (all_kept inputs) k in
+  holds_of docs (node op inputs) w e =
+      let many = length (expr_list inputs) in
       let own =
       none_first (fault_at (λ name. true) op (orders_of inputs)) (faults_where (λ name. true) inputs)
       e in
-      let h = hold_all docs inputs (and_second (keeps_keys op) (all_kept inputs) k)
+      let h = hold_all docs inputs w.1.1
       (none_second (fault_at (λ name. true) op (orders_of inputs))
       (faults_where (λ name. true) inputs) e) in (
-        (h.0, needs_hold op (orders_of inputs) (lists_of docs inputs) here own h.1),
-        given_in_order docs op (orders_of inputs) (lists_of docs inputs) here own h.1,
+        (h.0, needs_hold op many (orders_of inputs) (lists_of docs inputs) w.0 own h.1),
+        given_in_order docs op many (orders_of inputs) (lists_of docs inputs) w.0 own h.1,
       )
 
   -- and of all inputs
-  pub hold_all : (docs : Collections) (ts : ExprTrees) → all_kept ts ≡ true
+  pub hold_all : (docs : Collections) (ts : ExprTrees) → AreAllWell ts
       → faults_where (λ name. true) ts ≡ None → HoldAll docs ts
-  hold_all docs no_exprs k e = (tt, tt)
-  hold_all docs (an_expr t ts) k e =
-      let h = holds_of docs t (and_first (are_kept t) (all_kept ts) k)
-      (none_first (own_fault t) (faults_where (λ name. true) ts) e) in
-      let hs = hold_all docs ts (and_second (are_kept t) (all_kept ts) k)
+  hold_all docs no_exprs w e = (tt, tt)
+  hold_all docs (an_expr t ts) w e =
+      let h = holds_of docs t w.0 (none_first (own_fault t) (faults_where (λ name. true) ts) e) in
+      let hs = hold_all docs ts w.1
       (none_second (own_fault t) (faults_where (λ name. true) ts) e) in
       ((h.0, hs.0), (h.1, hs.1))

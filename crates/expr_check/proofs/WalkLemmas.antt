@@ -9,9 +9,13 @@ use Rattle.sort_spec.specs.Texts.{once}
 use Rattle.sort_spec.proofs.OnceLemmas.{once_push}
 use Rattle.expr_types.specs.ExprTree.{ExprTree, inputs_of, inputs_in, operator_in}
 use Rattle.expr_types.proofs.TreeLemmas.{node-parts}
-use Rattle.expr_check.specs.Orders.{order_of, orders_of, order_given}
-use Rattle.expr_check.specs.Faults.{fault_at, fault_where, faults_where}
-use Rattle.expr_check.specs.Reads.{with_name, read_by, searched_in, all_searched}
+use Rattle.expr_check.specs.Walk.{order_of, orders_of}
+use Rattle.expr_check.specs.Rules.{order_given}
+use Rattle.expr_check.specs.Rules.{fault_at}
+use Rattle.expr_check.specs.Walk.{fault_where, faults_where}
+use Rattle.expr_check.specs.Reads.{with_name}
+use Rattle.expr_check.specs.Rules.{read_by}
+use Rattle.expr_check.specs.Walk.{searched_in, all_searched}
 use Rattle.expr_check.specs.declared.order.Order.{Order}
 use Rattle.expr_check.specs.declared.fault.CheckFault.{CheckFault}
 

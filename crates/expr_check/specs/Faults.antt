@@ -4,17 +4,9 @@ use Rattle.std.specs.Prelude.{◌++◌, Bool, true, false, List, [], ◌∷◌, 
 use Rattle.std.specs.Prelude.{codes, if◌then◌else◌}
 use Rattle.std.specs.List.{join_by}
 use Rattle.std.specs.Option.{option_or}
-use Rattle.tuple_values.specs.Collections.{is_known}
 use Rattle.tuple_values.specs.Document.{ByteList, is_named}
-use Rattle.tuple_values.specs.declared.names.NameShards.{NameShards}
 use Rattle.sort_spec.specs.Texts.{direction_word}
 use Rattle.sort_spec.specs.declared.term.SortTerm.{SortTerm}
-use Rattle.expr_types.specs.ExprTree.{Operator, search, tuple, select, having, sort, top, unique}
-use Rattle.expr_types.specs.ExprTree.{merge, reduce, rollup, inner_join, left_outer_join, intersect}
-use Rattle.expr_types.specs.ExprTree.{complement, hash_join, outer_hash_join, in_parallel, topic}
-use Rattle.expr_types.specs.ExprTree.{update, commit, daemon}
-use Rattle.expr_types.specs.ExprTree.{ExprTree, node, ExprTrees, no_exprs, an_expr}
-use Rattle.expr_check.specs.Orders.{orders_of}
 use Rattle.expr_check.specs.Needs.{meets_sort, meets_names}
 use Rattle.expr_check.specs.declared.order.Order.{Order}
 use Rattle.expr_check.specs.declared.order.Order.TheVariants.{Any, By}
@@ -82,52 +74,6 @@ sort_fault on order = order_fault (codes "merge") (sort_text on) (meets_sort on 
 abbrev pub first_fault : {X : Type 0} → (X → Option CheckFault) → List X → Option CheckFault
 first_fault fault [] = None
 first_fault fault (x ∷ xs) = option_or (fault x) (first_fault fault xs)
-
--- the fault of an operator over inputs of these orders, where these collections are there; of what
--- no call stands for yet none is told
-abbrev pub fault_at : (ByteList → Bool) → Operator → List Order → Option CheckFault
-fault_at is_there (search p) orders = search_fault is_there p.collection p.sort p.fl
-fault_at is_there (tuple fields) orders = None
-fault_at is_there (select items) orders = None
-fault_at is_there (having condition) orders = None
-fault_at is_there (sort by) orders = None
-fault_at is_there (top n by) orders = None
-fault_at is_there (unique over) orders = first_fault (names_fault (codes "unique") over) orders
-fault_at is_there (merge on) orders = first_fault (sort_fault on) orders
-fault_at is_there (reduce by op) orders = first_fault (names_fault (codes "reduce") by) orders
-fault_at is_there (rollup over metrics) orders =
-    first_fault (names_fault (codes "rollup") over) orders
-fault_at is_there (inner_join on) orders = None
-fault_at is_there (left_outer_join on) orders = None
-fault_at is_there (intersect on) orders = None
-fault_at is_there (complement on) orders = None
-fault_at is_there (hash_join on) orders = None
-fault_at is_there (outer_hash_join on) orders = None
-fault_at is_there (in_parallel collection workers by) orders = None
-fault_at is_there (topic p) orders = None
-fault_at is_there (update dest size) orders = None
-fault_at is_there (commit dest size) orders = None
-fault_at is_there (daemon id interval terminate) orders = None
-
--- the first fault of an expression, where these collections are there
-abbrev mutual
-  pub fault_where : (ByteList → Bool) → ExprTree → Option CheckFault
-  fault_where is_there (node op inputs) =
-      option_or (fault_at is_there op (orders_of inputs)) (faults_where is_there inputs)
-
-  -- the first fault of inputs
-  pub faults_where : (ByteList → Bool) → ExprTrees → Option CheckFault
-  faults_where is_there no_exprs = None
-  faults_where is_there (an_expr e exprs) =
-      option_or (fault_where is_there e) (faults_where is_there exprs)
-
--- the first fault of an expression over collections of these names
-abbrev pub fault_of : List NameShards → ExprTree → Option CheckFault
-fault_of names t = fault_where (λ name. is_known name names) t
-
--- the first fault of an expression but that of a collection
-abbrev pub own_fault : ExprTree → Option CheckFault
-own_fault t = fault_where (λ name. true) t
 
 -- what a reply says of a fault
 abbrev pub fault_text : CheckFault → ByteList

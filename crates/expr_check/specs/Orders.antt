@@ -9,11 +9,6 @@ use Rattle.sort_spec.specs.Terms.{less}
 use Rattle.sort_spec.specs.declared.term.SortTerm.{SortTerm}
 use Rattle.expr_types.specs.declared.item.Item.{Item}
 use Rattle.expr_types.specs.declared.item.Item.TheVariants.{Field, Replace, Concat}
-use Rattle.expr_types.specs.ExprTree.{Operator, search, tuple, select, having, sort, top, unique}
-use Rattle.expr_types.specs.ExprTree.{merge, reduce, rollup, inner_join, left_outer_join, intersect}
-use Rattle.expr_types.specs.ExprTree.{complement, hash_join, outer_hash_join, in_parallel, topic}
-use Rattle.expr_types.specs.ExprTree.{update, commit, daemon, first_or}
-use Rattle.expr_types.specs.ExprTree.{ExprTree, node, ExprTrees, no_exprs, an_expr}
 use Rattle.expr_check.specs.declared.order.Order.{Order}
 use Rattle.expr_check.specs.declared.order.Order.TheVariants.{Any, By}
 
@@ -73,38 +68,3 @@ kept_order items (By terms) = By (kept_terms items terms)
 abbrev pub first_terms : ℕ → Order → Order
 first_terms k Any = Any
 first_terms k (By terms) = By (take k terms)
-
--- the order that an operator gives of the orders of its inputs; the first of no order is any, and
--- what no call stands for yet is in the order of no term
-abbrev pub order_given : Operator → List Order → Order
-order_given (search p) orders = By p.sort
-order_given (tuple fields) orders = Any
-order_given (select items) orders = kept_order items (first_or Any orders)
-order_given (having condition) orders = first_or Any orders
-order_given (sort by) orders = By by
-order_given (top n by) orders = By by
-order_given (unique over) orders = first_or Any orders
-order_given (merge on) orders = By on
-order_given (reduce by op) orders = first_terms (length by) (first_or Any orders)
-order_given (rollup over metrics) orders = first_terms (length over) (first_or Any orders)
-order_given (inner_join on) orders = By []
-order_given (left_outer_join on) orders = By []
-order_given (intersect on) orders = By []
-order_given (complement on) orders = By []
-order_given (hash_join on) orders = By []
-order_given (outer_hash_join on) orders = By []
-order_given (in_parallel collection workers by) orders = By []
-order_given (topic p) orders = By []
-order_given (update dest size) orders = By []
-order_given (commit dest size) orders = By []
-order_given (daemon id interval terminate) orders = By []
-
--- the order of an expression
-abbrev mutual
-  pub order_of : ExprTree → Order
-  order_of (node op inputs) = order_given op (orders_of inputs)
-
-  -- the orders of inputs
-  pub orders_of : ExprTrees → List Order
-  orders_of no_exprs = []
-  orders_of (an_expr e exprs) = order_of e ∷ orders_of exprs

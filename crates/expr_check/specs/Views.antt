@@ -1,6 +1,6 @@
 -- What a checked expression is (own).
 use Rattle.expr_types.specs.ExprTree.{ExprTree}
-use Rattle.expr_types.specs.ExprViews.{expr_tree}
+use Rattle.expr_types.specs.ExprTree.{expr_tree}
 use Rattle.expr_types.specs.declared.expr.Expr.{Expr}
 use Rattle.expr_check.specs.declared.checked.Checked.{Checked}
 

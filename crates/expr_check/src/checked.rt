@@ -1,11 +1,12 @@
 // Expressions that may be evaluated.
 ghost use Rattle.std.specs.Prelude.{◌≡◌, true, is_none};
 ghost use Rattle.std.specs.Coded.{Coded-set};
-ghost use Rattle.expr_types.specs.Lists.{are_kept};
-ghost use Rattle.expr_types.specs.ExprViews.{expr_tree};
-ghost use Rattle.expr_check.specs.Orders.{order_of};
-ghost use Rattle.expr_check.specs.Faults.{own_fault};
-ghost use Rattle.expr_check.specs.Reads.{collections_of};
+ghost use Rattle.expr_types.specs.ExprTree.{expr_tree};
+ghost use Rattle.expr_types.specs.Planned.{IsPlanned};
+ghost use Rattle.expr_types.proofs.PlannedLemmas.{IsPlanned-prop};
+ghost use Rattle.expr_check.specs.Walk.{order_of};
+ghost use Rattle.expr_check.specs.Walk.{own_fault};
+ghost use Rattle.expr_check.specs.Walk.{collections_of};
 
 use crate::Order;
 use crate::reads::are_known;
@@ -18,21 +19,22 @@ pub struct Checked {
     expr: Expr,
     order: Order,
     collections: FieldList,
-    pub ghost kept: { are_kept (expr_tree expr) ≡ true },
+    pub ghost planned: { IsPlanned (expr_tree expr) } by { IsPlanned-prop (expr_tree expr) },
     pub ghost met: { is_none (own_fault (expr_tree expr)) ≡ true },
     pub ghost ordered: { order ≡ order_of (expr_tree expr) } by { Coded-set order-code _ _ },
     pub ghost reads: { collections ≡ collections_of (expr_tree expr) },
 }
 
 impl Checked {
-    ghost use Rattle.expr_types.specs.Lists.{Collections, list_of, AreSorted};
+    ghost use Rattle.expr_types.specs.Rules.{Collections};
+    ghost use Rattle.expr_types.specs.Lists.{list_of, AreSorted};
     ghost use Rattle.expr_check.specs.Orders.{IsInOrder};
     ghost use Rattle.expr_check.specs.Reads.{are_known};
     ghost use Rattle.expr_check.specs.Views.{expr_of, tree_of};
 
     // The expression with what was found of it.
     pub(crate) fn new(expr: Expr, order: Order, collections: FieldList) -> Checked
-        requires kept { are_kept (expr_tree expr) ≡ true }
+        requires planned { IsPlanned (expr_tree expr) }
         requires met { is_none (own_fault (expr_tree expr)) ≡ true }
         requires ordered { order ≡ order_of (expr_tree expr) }
         requires reads { collections ≡ collections_of (expr_tree expr) }
@@ -45,9 +47,10 @@ impl Checked {
         }
     }
 
-    /// The expression.
+    /// The expression, which is as a plan gives it.
     pub fn expr(&self) -> &Expr
         ensures value { result.now ≡ expr_of self.now }
+        ensures planned { IsPlanned (expr_tree result.now) }
 
         // Whatever the documents are, each input has the order that its function needs.
         ensures sorted { (docs : Collections) → AreSorted docs (expr_tree result.now) }

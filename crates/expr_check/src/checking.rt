@@ -1,10 +1,11 @@
 // The check of an expression.
 ghost use Rattle.std.specs.Prelude.{◌≡◌, ◌≢◌, None, Some, IfOk, IfErr, OnOk, IsTrue};
-ghost use Rattle.expr_types.specs.Lists.{AreKeysKept};
-ghost use Rattle.expr_types.specs.ExprViews.{expr_tree};
-ghost use Rattle.expr_check.specs.Faults.{fault_of};
+ghost use Rattle.expr_types.specs.ExprTree.{expr_tree};
+ghost use Rattle.expr_types.specs.Planned.{IsPlanned};
+ghost use Rattle.expr_check.specs.Walk.{fault_of};
 ghost use Rattle.expr_check.specs.Law.{InputsAreSorted, ListsAreInOrder};
-ghost use Rattle.expr_check.specs.Reads.{named_in, are_known};
+ghost use Rattle.expr_check.specs.Walk.{named_in};
+ghost use Rattle.expr_check.specs.Reads.{are_known};
 ghost use Rattle.expr_check.specs.Views.{expr_of};
 ghost use Rattle.expr_check.specs.declared.fault.CheckFault.TheVariants.{OutOfMemory};
 
@@ -18,8 +19,8 @@ use tuple_values::{FieldList, Names};
 /// Checks that an expression may be evaluated over collections of these names. The expression is
 /// moved in, and dropped after an `Err`.
 pub fn check(alloc: Global, expr: Expr, names: &Names) -> Result<Checked, CheckFault>
-    // No key's field is given another value: no `group` in `by`, no metric's name in `over`.
-    requires kept { AreKeysKept (expr_tree expr) }
+    // A plan gives it.
+    requires planned { IsPlanned (expr_tree expr) }
 
     // It may be evaluated only where there is no fault, and the fault is the first one.
     ensures ok { OnOk result (fault_of names.now (expr_tree expr) ≡ None) }

@@ -8,6 +8,7 @@ mod needs;
 mod order;
 mod orders;
 mod reads;
+mod rules;
 #[cfg(test)]
 mod tests;
 mod texts;

@@ -1,9 +1,10 @@
 use Rattle.std.proofs.Common.{◌≡◌, [], fold, ap, ◌∙◌, None}
 use Rattle.std.specs.Prelude.{is_none}
 use Rattle.tuple_values.specs.Collections.{is_known}
-use Rattle.expr_types.specs.ExprViews.{expr_tree}
-use Rattle.expr_check.specs.Reads.{with_name, searched_in}
-use Rattle.expr_check.specs.Faults.{fault_of}
+use Rattle.expr_types.specs.ExprTree.{expr_tree}
+use Rattle.expr_check.specs.Reads.{with_name}
+use Rattle.expr_check.specs.Walk.{searched_in}
+use Rattle.expr_check.specs.Walk.{fault_of}
 use Rattle.expr_check.proofs.FaultLemmas.{fault_where-own, fault_where-there}
 use Rattle.expr_check.proofs.WalkLemmas.{once-fold}
 use Rattle.expr_check.proofs.checking.check.Goals as goal

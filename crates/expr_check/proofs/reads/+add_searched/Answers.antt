@@ -1,7 +1,8 @@
-use Rattle.std.proofs.Common.{◌≡◌, ◌<◌, ◌+◌, ◌∙◌, ap, sym, length, drop, fold, arith}
+use Rattle.std.proofs.Common.{◌<◌, ◌+◌, ◌∙◌, ap, sym, length, drop, fold, arith}
 use Rattle.expr_types.specs.ExprTree.{inputs_in, inputs_of}
-use Rattle.expr_types.specs.ExprViews.{expr_tree}
-use Rattle.expr_check.specs.Reads.{with_name, all_searched}
+use Rattle.expr_types.specs.ExprTree.{expr_tree}
+use Rattle.expr_check.specs.Reads.{with_name}
+use Rattle.expr_check.specs.Walk.{all_searched}
 use Rattle.expr_check.proofs.WalkLemmas.{searched_in-parts, searched_more}
 use Rattle.expr_check.proofs.reads.+add_searched.Goals as goal
 

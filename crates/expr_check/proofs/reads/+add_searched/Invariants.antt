@@ -1,7 +1,9 @@
 use Rattle.std.proofs.Common.{◌≡◌, drop, fold}
-use Rattle.expr_types.specs.ExprTree.{inputs_in, inputs_of, height}
-use Rattle.expr_types.specs.ExprViews.{expr_tree}
-use Rattle.expr_check.specs.Reads.{with_name, searched_in, all_searched}
+use Rattle.expr_types.specs.ExprTree.{inputs_in, inputs_of}
+use Rattle.expr_types.specs.Heights.{height}
+use Rattle.expr_types.specs.ExprTree.{expr_tree}
+use Rattle.expr_check.specs.Reads.{with_name}
+use Rattle.expr_check.specs.Walk.{searched_in, all_searched}
 use Rattle.expr_check.proofs.reads.+add_searched.Given as goal
 
 -- the collections of the inputs to come are still to be added

@@ -1,12 +1,12 @@
-use Rattle.std.proofs.Common.{◌≡◌, ◌<◌, ◌+◌, ◌++◌, ◌∙◌, ap, sym, length, drop, Bool, arith}
+use Rattle.std.proofs.Common.{◌<◌, ◌+◌, ◌++◌, ◌∙◌, ap, length, drop, Bool, arith}
 use Rattle.std.specs.Option.{option_or}
 use Rattle.tuple_values.specs.Collections.{is_known}
 use Rattle.tuple_values.specs.Document.{ByteList}
-use Rattle.expr_types.specs.ExprTree.{inputs_in, inputs_of, operator_in}
-use Rattle.expr_types.specs.ExprViews.{expr_tree}
-use Rattle.expr_check.specs.Faults.{fault_at, faults_where}
-use Rattle.expr_check.specs.Orders.{order_given, orders_of}
-use Rattle.expr_check.proofs.WalkLemmas.{order_of-parts, fault_where-parts, orders_more}
+use Rattle.expr_types.specs.ExprTree.{inputs_in, inputs_of}
+use Rattle.expr_types.specs.ExprTree.{expr_tree}
+use Rattle.expr_check.specs.Walk.{faults_where}
+use Rattle.expr_check.specs.Walk.{orders_of}
+use Rattle.expr_check.proofs.WalkLemmas.{fault_where-parts, orders_more}
 use Rattle.expr_check.proofs.WalkLemmas.{faults_more}
 use Rattle.expr_check.proofs.walk.+walking.Goals as goal
 

@@ -1,10 +1,11 @@
 use Rattle.std.proofs.Common.{◌≡◌, ◌+◌, ◌*◌, ◌++◌, drop}
 use Rattle.std.specs.Option.{option_or}
 use Rattle.tuple_values.specs.Collections.{is_known}
-use Rattle.expr_types.specs.ExprTree.{inputs_in, inputs_of, height}
-use Rattle.expr_types.specs.ExprViews.{expr_tree}
-use Rattle.expr_check.specs.Orders.{orders_of}
-use Rattle.expr_check.specs.Faults.{faults_where}
+use Rattle.expr_types.specs.ExprTree.{inputs_in, inputs_of}
+use Rattle.expr_types.specs.Heights.{height}
+use Rattle.expr_types.specs.ExprTree.{expr_tree}
+use Rattle.expr_check.specs.Walk.{orders_of}
+use Rattle.expr_check.specs.Walk.{faults_where}
 use Rattle.expr_check.proofs.walk.+walking.Given as goal
 
 -- the orders and the first fault so far, and then those of the inputs to come

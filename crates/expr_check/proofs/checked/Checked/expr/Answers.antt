@@ -1,10 +1,10 @@
-use Rattle.expr_types.specs.ExprViews.{expr_tree}
-use Rattle.expr_check.specs.Faults.{own_fault}
+use Rattle.expr_types.specs.ExprTree.{expr_tree}
+use Rattle.expr_check.specs.Walk.{own_fault}
 use Rattle.expr_check.proofs.LawLemmas.{holds_of}
 use Rattle.expr_check.proofs.WalkLemmas.{is_none-None}
 use Rattle.expr_check.proofs.checked.Checked.expr.Goals as goal
 
 pub returns-clause-sorted : goal.returns-clause-sorted
 returns-clause-sorted c = λ docs.
-    (holds_of docs (expr_tree c.args.self.now.expr) c.args.self.now.kept
+    (holds_of docs (expr_tree c.args.self.now.expr) c.args.self.now.planned.0
     (is_none-None (own_fault (expr_tree c.args.self.now.expr)) c.args.self.now.met)).0

@@ -1,0 +1,94 @@
+-- What the check knows of each function with its parameters, in one row of a table: the order in which
+-- it gives its tuples, its own fault, and the collections that it names (own, after Solr Reference
+-- Guide, "Stream Source Reference" and "Stream Decorator Reference").
+use Rattle.std.specs.Prelude.{List, [], ◌∷◌, length, Bool, Option, None, codes}
+use Rattle.tuple_values.specs.Document.{ByteList}
+use Rattle.expr_types.specs.ExprTree.{Operator, search, tuple, select, having, sort, top, unique}
+use Rattle.expr_types.specs.ExprTree.{merge, reduce, rollup, inner_join, left_outer_join, intersect}
+use Rattle.expr_types.specs.ExprTree.{complement, hash_join, outer_hash_join, in_parallel, topic}
+use Rattle.expr_types.specs.ExprTree.{update, commit, daemon, first_or}
+use Rattle.expr_check.specs.Orders.{kept_order, first_terms}
+use Rattle.expr_check.specs.Faults.{search_fault, names_fault, sort_fault, first_fault}
+use Rattle.expr_check.specs.declared.order.Order.{Order}
+use Rattle.expr_check.specs.declared.order.Order.TheVariants.{Any, By}
+use Rattle.expr_check.specs.declared.fault.CheckFault.{CheckFault}
+
+-- a row of the table
+pub record CheckRule : Type 0 where
+  -- the order that it gives of the orders of its inputs
+  pub order : List Order → Order
+  -- its fault over inputs of these orders, where these collections are there
+  pub fault : (ByteList → Bool) → List Order → Option CheckFault
+  -- the collections that it reads
+  pub reads : List ByteList
+  -- those that it names, which are to be there
+  pub names : List ByteList
+
+-- what gives its input's order, as far as it keeps it, and has no fault
+abbrev pub by_input : (Order → Order) → CheckRule
+by_input kept = record {
+  order = λ orders. kept (first_or Any orders);
+  fault = λ is_there orders. None;
+  reads = [];
+  names = [];
+}
+
+-- what gives an order of its own, whatever its inputs are in
+abbrev pub of_its_own : Order → CheckRule
+of_its_own order = by_input (λ other. order)
+
+-- what needs the names as first fields of its inputs
+abbrev pub needs_names : ByteList → List ByteList → CheckRule → CheckRule
+needs_names function names rule =
+    record rule { fault = λ is_there orders. first_fault (names_fault function names) orders }
+
+-- what no call stands for yet is in the order of no term
+abbrev pub not_yet : CheckRule
+not_yet = of_its_own (By [])
+
+-- the table
+abbrev pub check_rule : Operator → CheckRule
+check_rule (search p) = record {
+  order = λ orders. By p.sort;
+  fault = λ is_there orders. search_fault is_there p.collection p.sort p.fl;
+  reads = p.collection ∷ [];
+  names = p.collection ∷ [];
+}
+check_rule (tuple fields) = of_its_own Any
+check_rule (select items) = by_input (kept_order items)
+check_rule (having condition) = by_input (λ order. order)
+check_rule (sort by) = of_its_own (By by)
+check_rule (top n by) = of_its_own (By by)
+check_rule (unique over) = needs_names (codes "unique") over (by_input (λ order. order))
+check_rule (merge on) =
+    record (of_its_own (By on)) { fault = λ is_there orders. first_fault (sort_fault on) orders }
+check_rule (reduce by op) = needs_names (codes "reduce") by (by_input (first_terms (length by)))
+check_rule (rollup over metrics) =
+    needs_names (codes "rollup") over (by_input (first_terms (length over)))
+check_rule (inner_join on) = not_yet
+check_rule (left_outer_join on) = not_yet
+check_rule (intersect on) = not_yet
+check_rule (complement on) = not_yet
+check_rule (hash_join on) = not_yet
+check_rule (outer_hash_join on) = not_yet
+check_rule (in_parallel collection workers by) = not_yet
+check_rule (topic p) = not_yet
+check_rule (update dest size) = not_yet
+check_rule (commit dest size) = not_yet
+check_rule (daemon id interval terminate) = not_yet
+
+-- the order that an operator gives of the orders of its inputs
+abbrev pub order_given : Operator → List Order → Order
+order_given op orders = (check_rule op).order orders
+
+-- the fault of an operator over inputs of these orders, where these collections are there
+abbrev pub fault_at : (ByteList → Bool) → Operator → List Order → Option CheckFault
+fault_at is_there op orders = (check_rule op).fault is_there orders
+
+-- the collections that an operator reads
+abbrev pub read_by : Operator → List ByteList
+read_by op = (check_rule op).reads
+
+-- the collections that an operator names
+abbrev pub named_by : Operator → List ByteList
+named_by op = (check_rule op).names

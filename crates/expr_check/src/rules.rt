@@ -1,0 +1,136 @@
+// What the check knows of each function: its fault, its order, and the collection that it reads.
+ghost use Rattle.std.specs.Prelude.{◌≡◌, IfOk, OnOk, fold};
+ghost use Rattle.tuple_values.specs.Collections.{is_known};
+ghost use Rattle.expr_types.specs.ExprTree.{operator_in, first_or};
+ghost use Rattle.expr_types.specs.ExprTree.{expr_tree};
+ghost use Rattle.expr_check.specs.Reads.{with_name};
+ghost use Rattle.expr_check.specs.Rules.{fault_at, order_given, read_by};
+ghost use Rattle.expr_check.specs.declared.order.Order.TheVariants.{Any};
+
+use crate::needs::{names_faults, search_fault, sort_faults};
+use crate::orders::{first_terms, kept_order};
+use crate::{CheckFault, Order};
+use expr_types::Expr;
+use sort_spec::SortSpec;
+use std::alloc::Global;
+use tuple_values::{FieldList, Memory, Names, Text, TryCopy};
+
+/// The fault of the function itself over inputs of these orders.
+pub(crate) fn fault_at(
+    alloc: Global,
+    expr: &Expr,
+    orders: &[Order],
+    names: &Names,
+) -> Result<Option<CheckFault>, Memory>
+    ensures { IfOk result (λ fault. fault ≡ fault_at (λ name. is_known name names.now)
+        (operator_in (expr_tree expr.now)) orders.now) }
+{
+    match expr {
+        Expr::Search {
+            collection,
+            fl,
+            sort,
+            ..
+        } => search_fault(alloc, collection, sort, fl, names),
+        Expr::Unique { over, .. } => names_faults(alloc, "unique", over, orders),
+        Expr::Reduce { by, .. } => names_faults(alloc, "reduce", by, orders),
+        Expr::Rollup { over, .. } => names_faults(alloc, "rollup", over, orders),
+        Expr::Merge { on, .. } => sort_faults(alloc, on, orders),
+        Expr::Tuple { .. }
+        | Expr::Select { .. }
+        | Expr::Having { .. }
+        | Expr::Sort { .. }
+        | Expr::Top { .. }
+        | Expr::InnerJoin { .. }
+        | Expr::LeftOuterJoin { .. }
+        | Expr::Intersect { .. }
+        | Expr::Complement { .. }
+        | Expr::HashJoin { .. }
+        | Expr::OuterHashJoin { .. }
+        | Expr::Parallel { .. }
+        | Expr::Topic { .. }
+        | Expr::Update { .. }
+        | Expr::Commit { .. }
+        | Expr::Daemon { .. } => Ok(None),
+    }
+}
+
+// The first order, or any where there is none.
+fn first_order(orders: Vec<Order>) -> Order
+    ensures { result ≡ first_or Any orders.items }
+{
+    match orders.into_iter().next() {
+        Some(order) => order,
+        None => Order::Any,
+    }
+}
+
+/// The order that the function gives of those of its inputs.
+pub(crate) fn order_given(alloc: Global, expr: &Expr, orders: Vec<Order>) -> Result<Order, Memory>
+    ensures { IfOk result (λ order. order
+        ≡ order_given (operator_in (expr_tree expr.now)) orders.items) }
+{
+    match expr {
+        Expr::Search { sort, .. }
+        | Expr::Sort { by: sort, .. }
+        | Expr::Top { sort, .. }
+        | Expr::Merge { on: sort, .. } => Ok(Order::By(sort.copy(alloc)?)),
+        Expr::Tuple { .. } => Ok(Order::Any),
+        Expr::Select { items, .. } => kept_order(alloc, items, &first_order(orders)),
+        Expr::Having { .. } | Expr::Unique { .. } => Ok(first_order(orders)),
+        Expr::Reduce { by: names, .. } | Expr::Rollup { over: names, .. } => {
+            first_terms(alloc, names.len(), &first_order(orders))
+        }
+        Expr::InnerJoin { .. }
+        | Expr::LeftOuterJoin { .. }
+        | Expr::Intersect { .. }
+        | Expr::Complement { .. }
+        | Expr::HashJoin { .. }
+        | Expr::OuterHashJoin { .. }
+        | Expr::Parallel { .. }
+        | Expr::Topic { .. }
+        | Expr::Update { .. }
+        | Expr::Commit { .. }
+        | Expr::Daemon { .. } => Ok(Order::By(SortSpec::new(alloc))),
+    }
+}
+
+// Adds a name at the end, where it isn't there.
+fn add_name(alloc: Global, name: &Text, list: &mut FieldList) -> Result<(), Memory>
+    ensures { OnOk result (list.new ≡ with_name list.old name.now) }
+{
+    if !list.contains(name.as_str()) {
+        list.push(name.copy(alloc)?)?;
+    }
+    Ok(())
+}
+
+/// Adds the collection that the function reads.
+pub(crate) fn add_read(alloc: Global, expr: &Expr, list: &mut FieldList) -> Result<(), Memory>
+    ensures { OnOk result (list.new
+        ≡ fold with_name list.old (read_by (operator_in (expr_tree expr.now)))) }
+{
+    match expr {
+        Expr::Search { collection, .. } => add_name(alloc, collection, list),
+        Expr::Tuple { .. }
+        | Expr::Select { .. }
+        | Expr::Having { .. }
+        | Expr::Sort { .. }
+        | Expr::Top { .. }
+        | Expr::Unique { .. }
+        | Expr::Merge { .. }
+        | Expr::Reduce { .. }
+        | Expr::Rollup { .. }
+        | Expr::InnerJoin { .. }
+        | Expr::LeftOuterJoin { .. }
+        | Expr::Intersect { .. }
+        | Expr::Complement { .. }
+        | Expr::HashJoin { .. }
+        | Expr::OuterHashJoin { .. }
+        | Expr::Parallel { .. }
+        | Expr::Topic { .. }
+        | Expr::Update { .. }
+        | Expr::Commit { .. }
+        | Expr::Daemon { .. } => Ok(()),
+    }
+}
