@@ -9,10 +9,10 @@ use Rattle.tuple_values.specs.Document.{ByteList, Doc}
 use Rattle.expr_plan.specs.Given.{param_at, taken, text_in, names_in, names_maybe, sort_in}
 use Rattle.expr_plan.specs.Given.{query_in, number_in, item_in, items_in, metric_in, metrics_in}
 use Rattle.expr_types.specs.ExprTree.{ExprTree, node, inputs_of, search}
-use Rattle.expr_plan.specs.Walk.{with_field, with_fields, search_of}
+use Rattle.expr_plan.specs.Table.{with_field, with_fields, search_of}
 use Rattle.query_syntax.specs.declared.query.Query.{Query}
 use Rattle.sort_spec.specs.declared.term.SortTerm.{SortTerm}
-use Rattle.expr_types.specs.ExprViews.{expr_tree, expr_step}
+use Rattle.expr_types.specs.ExprTree.{expr_tree, expr_step}
 use Rattle.expr_types.specs.declared.expr.Expr.TheOpen.{Expr-F}
 use Rattle.expr_types.specs.declared.expr.Expr.TheFolds.{fold-roll-Expr}
 use Rattle.expr_types.specs.declared.expr.Expr.TheVariants as expr

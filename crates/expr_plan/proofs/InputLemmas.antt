@@ -6,12 +6,12 @@ use Rattle.std.specs.List.{cons_option}
 use Rattle.std.proofs.lemmas.List.{at_drop_more, at_drop_all, map-append}
 use Rattle.expr_reader.specs.Tree.{ArgTree, trees_of}
 use Rattle.expr_types.specs.ExprTree.{ExprTree}
-use Rattle.expr_types.specs.ExprViews.{expr_tree}
+use Rattle.expr_types.specs.ExprTree.{expr_tree}
 use Rattle.expr_plan.specs.Fault.{and_then, IsFaultOf}
 use Rattle.expr_plan.specs.Walk.{inputs_planned, input_planned}
 use Rattle.expr_types.specs.declared.expr.Expr.{Expr}
 use Rattle.expr_plan.specs.declared.fault.PlanFault.{PlanFault}
-use Rattle.expr_plan.specs.declared.function.Function.{Function}
+use Rattle.expr_plan.specs.declared.row.Function.{Function}
 use Rattle.expr_plan.proofs.WalkLemmas.{first_faulty}
 
 -- inputs, and then those that were planned, unless there is a fault

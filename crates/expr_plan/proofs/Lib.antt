@@ -1,7 +1,11 @@
 pub mod WordsLemmas
 pub mod ConditionLemmas
 pub mod InputLemmas
+pub mod ShapeLemmas
+pub mod ReadLemmas
 pub mod KeptLemmas
 pub mod PlannedLemmas
 pub mod WalkLemmas
 pub mod GivenLemmas
+pub mod ArgumentFaultLemmas
+pub mod LawLemmas

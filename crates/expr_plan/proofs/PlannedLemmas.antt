@@ -1,116 +1,230 @@
--- What a call stands for keeps the fields of its keys, and so do its inputs.
-use Rattle.std.proofs.Common.{◌≡◌, ℕ, ◌+◌, List, [], ◌∷◌, ◌++◌, Bool, true, false, not, ◌&&◌, cond}
-use Rattle.std.proofs.Common.{Option, Some, None, Result, Ok, Err, codes, subst, length, ap, sym, ◌∙◌}
-use Rattle.std.proofs.Common.{refl, arith}
-use Rattle.std.proofs.lemmas.List.{length-append}
+-- What a call stands for is what a plan is like: each operator of it is well over as many inputs as
+-- it has, and no more calls stand in it than in the call.
+use Rattle.std.specs.Prelude.{◌==◌}
+use Rattle.std.proofs.Common.{◌≡◌, ◌≤◌, ℕ, ◌+◌, List, [], ◌∷◌, ◌++◌, Bool, true, false, not, ◌&&◌}
+use Rattle.std.proofs.Common.{◌||◌, cond, Option, Some, None, Result, Ok, Err, codes, subst, length}
+use Rattle.std.proofs.Common.{ap, sym, ◌∙◌, refl, arith}
+use Rattle.std.specs.Str.{bytes_eq}
 use Rattle.std.specs.List.{AllByRecursion}
+use Rattle.std.proofs.lemmas.List.{length-append}
+use Rattle.std.proofs.lemmas.Slice.Eq.{bytes_eq-Decides}
 use Rattle.tuple_values.specs.Document.{ByteList, is_named}
 use Rattle.expr_reader.specs.Tree.{CallTree, call, ArgTree, plain, named, named_call, sub, renamed}
-use Rattle.expr_reader.specs.Tree.{ArgTrees, no_args, an_arg}
-use Rattle.expr_plan.specs.Arguments.{Walked, nothing_given, with_args}
-use Rattle.expr_types.specs.ExprTree.{ExprTree, node, inputs_of}
+use Rattle.expr_reader.specs.Tree.{ArgTrees, no_args, an_arg, calls, arg_calls, args_calls}
+use Rattle.expr_types.specs.ExprTree.{ExprTree, node, inputs_of, expr_list}
+use Rattle.expr_types.specs.Rules.{is_well, IsRead}
+use Rattle.expr_types.specs.Planned.{AreWell, AreAllWell, size, sizes, IsPlanned}
+use Rattle.expr_types.specs.Rules.{is_between, may_be_between, count_limit, row_limit}
+use Rattle.expr_types.specs.Planned.{call_limit}
+use Rattle.expr_plan.specs.Given.{Walked, nothing_given}
+use Rattle.expr_plan.specs.Arguments.{with_args}
 use Rattle.expr_plan.specs.Fault.{and_then}
-use Rattle.expr_plan.specs.Functions.{function_of, name_of, first_missing, takes}
-use Rattle.expr_plan.specs.Given.{param_at, names_in}
+use Rattle.expr_plan.specs.Functions.{function_of, name_of, first_missing, takes, required}
+use Rattle.expr_plan.specs.Functions.{helpers_of}
+use Rattle.expr_plan.specs.Given.{param_at, names_in, is_given, first_absent, number_in, count_in}
+use Rattle.expr_plan.specs.Given.{group_in}
 use Rattle.expr_plan.specs.Helpers.{is_helper, is_input, made_names}
-use Rattle.expr_types.specs.Lists.{AreKeysKept, keeps_keys, are_kept, all_kept}
-use Rattle.expr_plan.specs.Walk.{planned, inputs_planned, input_planned, operator_of, known}
+use Rattle.expr_plan.specs.Walk.{planned, inputs_planned, input_planned, known}
+use Rattle.expr_plan.specs.Table.{operator_of}
 use Rattle.expr_plan.specs.Walk.{walked_of, complete, inputs_found}
 use Rattle.expr_plan.specs.declared.fault.PlanFault.{PlanFault}
 use Rattle.expr_plan.specs.declared.fault.PlanFault.TheVariants.{WrongInputs}
-use Rattle.expr_plan.specs.declared.function.Function.{Function}
-use Rattle.expr_plan.specs.declared.function.Function.TheVariants.{Search, Tuple, Select, Having}
-use Rattle.expr_plan.specs.declared.function.Function.TheVariants.{Sort, Top, Unique, Merge}
-use Rattle.expr_plan.specs.declared.function.Function.TheVariants.{Reduce, Rollup}
-use Rattle.expr_plan.proofs.KeptLemmas.{fine, fine_same, and_then-ok, all_made, key_free}
-use Rattle.expr_plan.proofs.KeptLemmas.{reduce_args, rollup_args, either_false, metrics_free}
-
--- each of some expressions keeps the fields of its keys
-abbrev AllKept : List ExprTree → Type 0
-AllKept inputs = AllByRecursion AreKeysKept inputs
-
--- those of two lists
-kept-append : (first rest : List ExprTree) → AllKept first → AllKept rest → AllKept (first ++ rest)
-kept-append [] rest a b = b
-kept-append (e ∷ first) rest a b = (a.0, kept-append first rest a.1 b)
+use Rattle.expr_plan.specs.declared.row.Function.{Function}
+use Rattle.expr_plan.specs.declared.row.Function.TheVariants.{Search, Tuple, Select, Having}
+use Rattle.expr_plan.specs.declared.row.Function.TheVariants.{Sort, Top, Unique, Merge}
+use Rattle.expr_plan.specs.declared.row.Function.TheVariants.{Reduce, Rollup}
+use Rattle.expr_plan.specs.declared.row.Shape.TheVariants as shape
+use Rattle.expr_plan.specs.declared.param.Given.{Given}
+use Rattle.expr_plan.specs.declared.param.Param.{Param}
+use Rattle.expr_plan.specs.declared.param.Param.TheVariants as param
+use Rattle.expr_plan.proofs.ReadLemmas.{AreGood, args_good}
+use Rattle.expr_plan.proofs.ShapeLemmas.{fine, fine_same, and_then-ok, has_shape, group_fits}
+use Rattle.expr_plan.proofs.KeptLemmas.{all_made, key_free, either_false, metrics_free, shape_at}
+use Rattle.expr_plan.proofs.KeptLemmas.{group_at, not_given}
 
 -- both of two tests
 both : (a b : Bool) → a ≡ true → b ≡ true → (a && b) ≡ true
 both a b e f = rw (e, f) refl
 
--- as inputs
-inputs_kept : (inputs : List ExprTree) → AllKept inputs → all_kept (inputs_of inputs) ≡ true
-inputs_kept [] all = refl
-inputs_kept (e ∷ inputs) all =
-    both (are_kept e) (all_kept (inputs_of inputs)) all.0 (inputs_kept inputs all.1)
-
--- what is complete is what was given
+-- what is complete is what was given, and nothing is missing
 complete_same : (f : Function) (w more : Walked) (missing : Option ByteList)
-    → complete f w missing ≡ Ok more → w ≡ more
-complete_same f w more None e = fine_same w more e
+    → complete f w missing ≡ Ok more → (w ≡ more) × (missing ≡ None)
+complete_same f w more None e = (fine_same w more e, refl)
 complete_same f w more (Some name) e = absurd (cc)
 
--- what the arguments give, where nothing is missing
-given_by : (f : Function) (args : ArgTrees) (w : Walked) → walked_of f args ≡ Ok w
-    → with_args f (made_names f args) nothing_given args ≡ Ok w
-given_by f args w e = go (takes f (inputs_found f args)) e
+-- what the arguments give, where there are as many inputs as the function takes and nothing is
+-- missing
+walked_parts : (f : Function) (args : ArgTrees) (w : Walked) → walked_of f args ≡ Ok w
+    → (takes f (inputs_found f args) ≡ true)
+    × (with_args f (made_names f args) nothing_given args ≡ Ok w)
+    × (first_missing f w.given ≡ None)
+walked_parts f args w e = go (takes f (inputs_found f args)) refl e
   where
-    go : (b : Bool)
+    go : (b : Bool) → takes f (inputs_found f args) ≡ b
         → cond b (and_then (with_args f (made_names f args) nothing_given args)
         (λ w. complete f w (first_missing f w.given)))
         (Err (WrongInputs (name_of f) (inputs_found f args))) ≡ Ok w
-        → with_args f (made_names f args) nothing_given args ≡ Ok w
-    go true e =
+        → (takes f (inputs_found f args) ≡ true)
+        × (with_args f (made_names f args) nothing_given args ≡ Ok w)
+        × (first_missing f w.given ≡ None)
+    go true is e =
         let step = and_then-ok (with_args f (made_names f args) nothing_given args)
         (λ w. complete f w (first_missing f w.given)) w e in
-        subst (λ (x : Walked). with_args f (made_names f args) nothing_given args ≡ Ok x)
-        (complete_same f step.0 w (first_missing f step.0.given) step.2) step.1
-    go false e = absurd (cc)
+        let same = complete_same f step.0 w (first_missing f step.0.given) step.2 in (
+          is,
+          subst (λ (x : Walked). with_args f (made_names f args) nothing_given args ≡ Ok x)
+              same.0 step.1,
+          subst (λ (x : Walked). first_missing f x.given ≡ None) same.0 same.1,
+        )
+    go false is e = absurd (cc)
 
 -- where a call has no fault, its function takes as many inputs as there are
 pub walked_takes : (f : Function) (args : ArgTrees) (w : Walked) → walked_of f args ≡ Ok w
     → takes f (inputs_found f args) ≡ true
-walked_takes f args w e = go (takes f (inputs_found f args)) e
+walked_takes f args w e = (walked_parts f args w e).0
+
+-- each parameter is as its function takes it
+walked_good : (f : Function) (args : ArgTrees) (w : Walked) → walked_of f args ≡ Ok w
+    → AreGood f (made_names f args) w
+walked_good f args w e =
+    args_good f (made_names f args) nothing_given w args (all_made (helpers_of f) args)
+    (walked_parts f args w e).1 tt
+
+-- each name of a list of which none is absent is given
+each_given : (names : List ByteList) (given : List Given) (name : ByteList)
+    → first_absent names given ≡ None → is_named name names ≡ true → is_given name given ≡ true
+each_given [] given name none is = absurd (cc)
+each_given (first ∷ names) given name none is =
+    go (is_given first given) refl none (each_given names given name)
   where
-    go : (b : Bool)
-        → cond b (and_then (with_args f (made_names f args) nothing_given args)
-        (λ w. complete f w (first_missing f w.given)))
-        (Err (WrongInputs (name_of f) (inputs_found f args))) ≡ Ok w
-        → b ≡ true
-    go true e = refl
-    go false e = absurd (cc)
+    here : (b : Bool) → bytes_eq first name ≡ b → (b || is_named name names) ≡ true
+        → is_given first given ≡ true
+        → (is_named name names ≡ true → is_given name given ≡ true)
+        → is_given name given ≡ true
+    here true same is there later =
+        subst (λ (x : ByteList). is_given x given ≡ true) ((bytes_eq-Decides first name).0 same)
+        there
+    here false same is there later = later is
 
--- the operator of a function with parameters that were read keeps its keys
-operator_kept : (f : Function) (args : ArgTrees) (w : Walked) → walked_of f args ≡ Ok w
-    → keeps_keys (operator_of f w) ≡ true
-operator_kept Search args w e = refl
-operator_kept Tuple args w e = refl
-operator_kept Select args w e = refl
-operator_kept Having args w e = refl
-operator_kept Sort args w e = refl
-operator_kept Top args w e = refl
-operator_kept Unique args w e = refl
-operator_kept Merge args w e = refl
-operator_kept Reduce args w e =
+    go : (b : Bool) → is_given first given ≡ b
+        → cond b (first_absent names given) (Some first) ≡ None
+        → (first_absent names given ≡ None → is_named name names ≡ true
+        → is_given name given ≡ true)
+        → is_given name given ≡ true
+    go true there none later = here (bytes_eq first name) refl is there (later none)
+    go false there none later = absurd (cc)
+
+-- what has to be given is given
+is_there : (f : Function) (args : ArgTrees) (w : Walked) (name : ByteList)
+    → walked_of f args ≡ Ok w → is_named name (required f) ≡ true → is_given name w.given ≡ true
+is_there f args w name e is =
+    each_given (required f) w.given name (walked_parts f args w e).2 is
+
+-- a number of this shape is within the limits
+number_fits : (low high : ℕ) (p : Param) → has_shape (shape.Number low high) p ≡ true
+    → may_be_between low high (number_in p) ≡ true
+number_fits low high (param.Number n) e = e
+number_fits low high _ e = absurd (cc)
+
+-- as a count, too
+count_fits : (low high : ℕ) (p : Param) → has_shape (shape.Number low high) p ≡ true
+    → is_between low high (count_in p) ≡ true
+count_fits low high (param.Number n) e = e
+count_fits low high _ e = absurd (cc)
+
+-- so is the number of a group
+group_number : (p : Param) → group_fits p ≡ true → is_between 1 count_limit (group_in p).n ≡ true
+group_number (param.Group op) e = e
+group_number _ e = absurd (cc)
+
+-- the rows of a search are within their limits, where they are given
+rows_fit : (args : ArgTrees) (w : Walked) → walked_of Search args ≡ Ok w
+    → may_be_between 0 row_limit (number_in (param_at (codes "rows") w.given)) ≡ true
+rows_fit args w e = go (is_given (codes "rows") w.given) refl
+  where
+    go : (b : Bool) → is_given (codes "rows") w.given ≡ b
+        → may_be_between 0 row_limit (number_in (param_at (codes "rows") w.given)) ≡ true
+    go true is =
+        number_fits 0 row_limit (param_at (codes "rows") w.given)
+        (shape_at Search [] (codes "rows") (shape.Number 0 row_limit) w refl
+        (walked_good Search args w e) is)
+    go false is = rw (not_given (codes "rows") w.given is) refl
+
+-- so is the number of top
+top_fits : (args : ArgTrees) (w : Walked) → walked_of Top args ≡ Ok w
+    → is_between 1 count_limit (count_in (param_at (codes "n") w.given)) ≡ true
+top_fits args w e =
+    count_fits 1 count_limit (param_at (codes "n") w.given)
+    (shape_at Top [] (codes "n") (shape.Number 1 count_limit) w refl (walked_good Top args w e)
+    (is_there Top args w (codes "n") e refl))
+
+-- the operator of a function with parameters that were read is well over as many inputs as it takes
+operator_well : (f : Function) (args : ArgTrees) (w : Walked) (inputs : ℕ)
+    → walked_of f args ≡ Ok w → takes f inputs ≡ true → is_well (operator_of f w) inputs ≡ true
+operator_well Search args w inputs e takes = both (inputs == 0) _ takes (rows_fit args w e)
+operator_well Tuple args w inputs e takes = takes
+operator_well Select args w inputs e takes = takes
+operator_well Having args w inputs e takes = takes
+operator_well Sort args w inputs e takes = takes
+operator_well Top args w inputs e takes = both (inputs == 1) _ takes (top_fits args w e)
+operator_well Unique args w inputs e takes = takes
+operator_well Merge args w inputs e takes = takes
+operator_well Reduce args w inputs e takes =
+    let good = walked_good Reduce args w e in
     let made = made_names Reduce args in
-    let good = reduce_args made nothing_given w args (given_by Reduce args w e) tt in
     let by = names_in (param_at (codes "by") w.given) in
-    ap not (either_false (is_named (codes "group") by) false (key_free made (codes "by") w good)).0
-operator_kept Rollup args w e =
+    let op = group_in (param_at (codes "group") w.given) in
+    let fits : is_between 1 count_limit op.n ≡ true =
+    group_number (param_at (codes "group") w.given)
+    (group_at Reduce made w refl good (is_there Reduce args w (codes "group") e refl)) in
+    both (inputs == 1 && is_between 1 count_limit op.n) (not (is_named (codes "group") by))
+    (both (inputs == 1) (is_between 1 count_limit op.n) takes fits)
+    (ap not
+    (either_false (is_named (codes "group") by) false (key_free Reduce made (codes "by") w good)).0)
+operator_well Rollup args w inputs e takes =
+    let good = walked_good Rollup args w e in
     let made = made_names Rollup args in
-    let good =
-    rollup_args made nothing_given w args (all_made args) (given_by Rollup args w e) tt in
     let over = names_in (param_at (codes "over") w.given) in
-    metrics_free over made w.given (key_free made (codes "over") w good) good
+    both (inputs == 1) _ takes
+    (metrics_free Rollup over made w.given refl (key_free Rollup made (codes "over") w good) good)
 
--- an argument that is a call
-sub_kept : (wanted : Result ExprTree PlanFault) (inputs : List ExprTree) (b : Bool)
-    → ((t : ExprTree) → wanted ≡ Ok t → AreKeysKept t)
-    → cond b (fine []) (and_then wanted (λ e. fine (e ∷ []))) ≡ Ok inputs → AllKept inputs
-sub_kept wanted inputs true kept e = subst AllKept (fine_same [] inputs e) tt
-sub_kept wanted inputs false kept e =
-    let x = and_then-ok wanted (λ e. fine (e ∷ [])) inputs e in
-    subst AllKept (fine_same (x.0 ∷ []) inputs x.2) (kept x.0 x.1, tt)
+-- no text is kept of any of them
+operator_read : (f : Function) (w : Walked) → IsRead (operator_of f w)
+operator_read Search w = tt
+operator_read Tuple w = tt
+operator_read Select w = tt
+operator_read Having w = tt
+operator_read Sort w = tt
+operator_read Top w = tt
+operator_read Unique w = tt
+operator_read Merge w = tt
+operator_read Reduce w = tt
+operator_read Rollup w = tt
+
+-- each of some expressions is well
+abbrev AllWell : List ExprTree → Type 0
+AllWell inputs = AllByRecursion AreWell inputs
+
+-- those of two lists
+well-append : (first rest : List ExprTree) → AllWell first → AllWell rest → AllWell (first ++ rest)
+well-append [] rest a b = b
+well-append (e ∷ first) rest a b = (a.0, well-append first rest a.1 b)
+
+-- as inputs
+inputs_well : (inputs : List ExprTree) → AllWell inputs → AreAllWell (inputs_of inputs)
+inputs_well [] all = tt
+inputs_well (e ∷ inputs) all = (all.0, inputs_well inputs all.1)
+
+-- inputs are as many as in the list
+inputs-length : (inputs : List ExprTree) → length (expr_list (inputs_of inputs)) ≡ length inputs
+inputs-length [] = refl
+inputs-length (e ∷ inputs) = let later = inputs-length inputs in omega arith
+
+-- the calls in the inputs of two lists
+sizes-append : (first rest : List ExprTree)
+    → sizes (inputs_of (first ++ rest)) ≡ sizes (inputs_of first) + sizes (inputs_of rest)
+sizes-append [] rest = omega arith
+sizes-append (e ∷ first) rest = let later = sizes-append first rest in omega arith
 
 -- the inputs that an argument that is a call gives
 sub_width : (wanted : Result ExprTree PlanFault) (inputs : List ExprTree) (b : Bool)
@@ -151,41 +265,132 @@ inputs_width f (an_arg a args) inputs e =
     ∙ ap (λ n. n + length y.0) here
     ∙ ap (λ n. cond (is_input f a) 1 0 + n) later
 
-mutual
-  -- what a call stands for keeps the fields of its keys
-  pub planned_kept : (c : CallTree) (t : ExprTree) → planned c ≡ Ok t → AreKeysKept t
-  planned_kept (call name args) t e =
-      let of_function : Function → Result ExprTree PlanFault =
-      λ f. and_then (walked_of f args)
-      (λ w. and_then (inputs_planned f args)
-      (λ inputs. Ok (node (operator_of f w) (inputs_of inputs)))) in
-      let a = and_then-ok (known name (function_of name)) of_function t e in
-      let f = a.0 in
-      let b = and_then-ok (walked_of f args)
-      (λ w. and_then (inputs_planned f args)
-      (λ inputs. Ok (node (operator_of f w) (inputs_of inputs)))) t a.2 in
-      let w = b.0 in
-      let op = operator_of f w in
-      let i = and_then-ok (inputs_planned f args) (λ inputs. Ok (node op (inputs_of inputs))) t
-      b.2 in
-      subst AreKeysKept (fine_same (node op (inputs_of i.0)) t i.2)
-      (both (keeps_keys op) (all_kept (inputs_of i.0)) (operator_kept f args w b.1)
-      (inputs_kept i.0 (args_kept f args i.0 i.1)))
+-- an argument that is a call
+sub_well : (wanted : Result ExprTree PlanFault) (inputs : List ExprTree) (b : Bool)
+    → ((t : ExprTree) → wanted ≡ Ok t → AreWell t)
+    → cond b (fine []) (and_then wanted (λ e. fine (e ∷ []))) ≡ Ok inputs → AllWell inputs
+sub_well wanted inputs true well e = subst AllWell (fine_same [] inputs e) tt
+sub_well wanted inputs false well e =
+    let x = and_then-ok wanted (λ e. fine (e ∷ [])) inputs e in
+    subst AllWell (fine_same (x.0 ∷ []) inputs x.2) (well x.0 x.1, tt)
 
-  args_kept : (f : Function) (args : ArgTrees) (inputs : List ExprTree)
-      → inputs_planned f args ≡ Ok inputs → AllKept inputs
-  args_kept f no_args inputs e = subst AllKept (fine_same [] inputs e) tt
-  args_kept f (an_arg a args) inputs e =
+-- what is no input stands for no calls
+none_small : (inputs : List ExprTree) (n : ℕ) → fine [] ≡ Ok inputs → sizes (inputs_of inputs) ≤ n
+none_small inputs n e =
+    subst (λ (x : List ExprTree). sizes (inputs_of x) ≤ n) (fine_same [] inputs e) (omega arith)
+
+-- an argument that is a call stands for no more calls than are in it
+sub_small : (wanted : Result ExprTree PlanFault) (n : ℕ) (inputs : List ExprTree) (b : Bool)
+    → ((t : ExprTree) → wanted ≡ Ok t → size t ≤ n)
+    → cond b (fine []) (and_then wanted (λ e. fine (e ∷ []))) ≡ Ok inputs
+    → sizes (inputs_of inputs) ≤ n
+sub_small wanted n inputs true small e = none_small inputs n e
+sub_small wanted n inputs false small e =
+    let x = and_then-ok wanted (λ e. fine (e ∷ [])) inputs e in
+    let here = small x.0 x.1 in
+    let alone : sizes (inputs_of (x.0 ∷ [])) ≤ n = omega arith in
+    subst (λ (l : List ExprTree). sizes (inputs_of l) ≤ n) (fine_same (x.0 ∷ []) inputs x.2) alone
+
+-- the parts of a call without a fault
+pub record Parts (name : ByteList) (args : ArgTrees) (t : ExprTree) : Type 0 where
+  pub f : Function
+  pub w : Walked
+  pub inputs : List ExprTree
+  pub walked : walked_of f args ≡ Ok w
+  pub planned : inputs_planned f args ≡ Ok inputs
+  pub is : node (operator_of f w) (inputs_of inputs) ≡ t
+
+-- a call without a fault has them
+parts_of : (name : ByteList) (args : ArgTrees) (t : ExprTree) → planned (call name args) ≡ Ok t
+    → Parts name args t
+parts_of name args t e =
+    let over : Function → Walked → Result ExprTree PlanFault =
+    λ f w. and_then (inputs_planned f args)
+    (λ inputs. Ok (node (operator_of f w) (inputs_of inputs))) in
+    let a = and_then-ok (known name (function_of name))
+    (λ f. and_then (walked_of f args) (over f)) t e in
+    let b = and_then-ok (walked_of a.0 args) (over a.0) t a.2 in
+    let i = and_then-ok (inputs_planned a.0 args)
+    (λ inputs. Ok (node (operator_of a.0 b.0) (inputs_of inputs))) t b.2 in
+    record {
+      f = a.0;
+      w = b.0;
+      inputs = i.0;
+      walked = b.1;
+      planned = i.1;
+      is = fine_same (node (operator_of a.0 b.0) (inputs_of i.0)) t i.2;
+    }
+
+mutual
+  -- what a call stands for is well
+  planned_well : (c : CallTree) (t : ExprTree) → planned c ≡ Ok t → AreWell t
+  planned_well (call name args) t e =
+      let p = parts_of name args t e in
+      let op = operator_of p.f p.w in
+      let width : length (expr_list (inputs_of p.inputs)) ≡ inputs_found p.f args =
+      inputs-length p.inputs ∙ inputs_width p.f args p.inputs p.planned in
+      let takes : takes p.f (length (expr_list (inputs_of p.inputs))) ≡ true =
+      ap (takes p.f) width ∙ walked_takes p.f args p.w p.walked in
+      subst AreWell p.is (
+        operator_well p.f args p.w (length (expr_list (inputs_of p.inputs))) p.walked takes,
+        (operator_read p.f p.w, inputs_well p.inputs (args_well p.f args p.inputs p.planned)),
+      )
+
+  args_well : (f : Function) (args : ArgTrees) (inputs : List ExprTree)
+      → inputs_planned f args ≡ Ok inputs → AllWell inputs
+  args_well f no_args inputs e = subst AllWell (fine_same [] inputs e) tt
+  args_well f (an_arg a args) inputs e =
       let x = and_then-ok (input_planned f a)
       (λ first. and_then (inputs_planned f args) (λ rest. Ok (first ++ rest))) inputs e in
       let y = and_then-ok (inputs_planned f args) (λ rest. Ok (x.0 ++ rest)) inputs x.2 in
-      subst AllKept (fine_same (x.0 ++ y.0) inputs y.2)
-      (kept-append x.0 y.0 (input_kept f a x.0 x.1) (args_kept f args y.0 y.1))
+      subst AllWell (fine_same (x.0 ++ y.0) inputs y.2)
+      (well-append x.0 y.0 (input_well f a x.0 x.1) (args_well f args y.0 y.1))
 
-  input_kept : (f : Function) (a : ArgTree) (inputs : List ExprTree)
-      → input_planned f a ≡ Ok inputs → AllKept inputs
-  input_kept f (plain text quoted) inputs e = subst AllKept (fine_same [] inputs e) tt
-  input_kept f (named key text quoted) inputs e = subst AllKept (fine_same [] inputs e) tt
-  input_kept f (named_call key c) inputs e = subst AllKept (fine_same [] inputs e) tt
-  input_kept f (sub c) inputs e = sub_kept (planned c) inputs (is_helper f c) (planned_kept c) e
-  input_kept f (renamed c to) inputs e = subst AllKept (fine_same [] inputs e) tt
+  input_well : (f : Function) (a : ArgTree) (inputs : List ExprTree)
+      → input_planned f a ≡ Ok inputs → AllWell inputs
+  input_well f (plain text quoted) inputs e = subst AllWell (fine_same [] inputs e) tt
+  input_well f (named key text quoted) inputs e = subst AllWell (fine_same [] inputs e) tt
+  input_well f (named_call key c) inputs e = subst AllWell (fine_same [] inputs e) tt
+  input_well f (sub c) inputs e = sub_well (planned c) inputs (is_helper f c) (planned_well c) e
+  input_well f (renamed c to) inputs e = subst AllWell (fine_same [] inputs e) tt
+
+mutual
+  -- no more calls stand in it than in the call
+  planned_small : (c : CallTree) (t : ExprTree) → planned c ≡ Ok t → size t ≤ calls c
+  planned_small (call name args) t e =
+      let p = parts_of name args t e in
+      let small = args_small p.f args p.inputs p.planned in
+      let here : size (node (operator_of p.f p.w) (inputs_of p.inputs)) ≤ calls (call name args) =
+      omega arith in
+      subst (λ (x : ExprTree). size x ≤ calls (call name args)) p.is here
+
+  args_small : (f : Function) (args : ArgTrees) (inputs : List ExprTree)
+      → inputs_planned f args ≡ Ok inputs → sizes (inputs_of inputs) ≤ args_calls args
+  args_small f no_args inputs e = none_small inputs 0 e
+  args_small f (an_arg a args) inputs e =
+      let x = and_then-ok (input_planned f a)
+      (λ first. and_then (inputs_planned f args) (λ rest. Ok (first ++ rest))) inputs e in
+      let y = and_then-ok (inputs_planned f args) (λ rest. Ok (x.0 ++ rest)) inputs x.2 in
+      let here = input_small f a x.0 x.1 in
+      let later = args_small f args y.0 y.1 in
+      let joined = sizes-append x.0 y.0 in
+      let all : sizes (inputs_of (x.0 ++ y.0)) ≤ args_calls (an_arg a args) = omega arith in
+      subst (λ (l : List ExprTree). sizes (inputs_of l) ≤ args_calls (an_arg a args))
+      (fine_same (x.0 ++ y.0) inputs y.2) all
+
+  input_small : (f : Function) (a : ArgTree) (inputs : List ExprTree)
+      → input_planned f a ≡ Ok inputs → sizes (inputs_of inputs) ≤ arg_calls a
+  input_small f (plain text quoted) inputs e = none_small inputs 0 e
+  input_small f (named key text quoted) inputs e = none_small inputs 0 e
+  input_small f (named_call key c) inputs e = none_small inputs (calls c) e
+  input_small f (sub c) inputs e =
+      sub_small (planned c) (calls c) inputs (is_helper f c) (planned_small c) e
+  input_small f (renamed c to) inputs e = none_small inputs (calls c) e
+
+-- what a call of so few calls stands for is what a plan is like
+pub planned_is : (c : CallTree) (t : ExprTree) → planned c ≡ Ok t → calls c ≤ call_limit
+    → IsPlanned t
+planned_is c t e few =
+    let small = planned_small c t e in
+    let fits : size t ≤ call_limit = omega arith in
+    (planned_well c t e, fits)

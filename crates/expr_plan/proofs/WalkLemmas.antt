@@ -4,13 +4,14 @@ use Rattle.std.proofs.Common.{Ok, true, false, cond, refl, ap, sym, ◌∙◌, s
 use Rattle.std.proofs.lemmas.List.{at_drop_more, at_drop_all}
 use Rattle.expr_reader.specs.Tree.{ArgTree, trees_of}
 use Rattle.tuple_values.specs.Document.{ByteList}
-use Rattle.expr_plan.specs.Arguments.{Walked, with_arg, with_args}
+use Rattle.expr_plan.specs.Given.{Walked}
+use Rattle.expr_plan.specs.Arguments.{with_arg, with_args}
 use Rattle.expr_plan.specs.Fault.{and_then, IsFaultOf}
 use Rattle.expr_plan.specs.Helpers.{is_input}
 use Rattle.expr_plan.specs.Walk.{inputs_found}
 use Rattle.expr_plan.specs.declared.fault.PlanFault.{PlanFault}
 use Rattle.expr_plan.specs.declared.fault.PlanFault.TheVariants as fault
-use Rattle.expr_plan.specs.declared.function.Function.{Function}
+use Rattle.expr_plan.specs.declared.row.Function.{Function}
 
 -- a fault of a first part is the fault of both
 pub first_faulty : {X Y : Type 0} (wanted : Result X PlanFault) (next : X → Result Y PlanFault)

@@ -1,37 +1,30 @@
 -- What the arguments of a call give, from the left to the right, or the first fault among them
 -- (own).
-use Rattle.std.specs.Prelude.{Bool, true, false, List, [], ◌∷◌, ◌++◌, Option, Some, None}
+use Rattle.std.specs.Prelude.{Bool, true, false, ◌&&◌, List, [], ◌∷◌, ◌++◌, Option, Some, None}
 use Rattle.std.specs.Prelude.{Result, Ok, option_map, codes, if◌then◌else◌}
 use Rattle.tuple_values.specs.Document.{ByteList}
 use Rattle.expr_reader.specs.Tree.{CallTree, ArgTree, plain, named, named_call, sub, renamed}
 use Rattle.expr_reader.specs.Tree.{ArgTrees, no_args, an_arg}
-use Rattle.expr_plan.specs.ConditionReading.{condition_of}
 use Rattle.expr_types.specs.ConditionTree.{ConditionTree}
 use Rattle.expr_types.specs.ConditionViews.{condition_tree}
+use Rattle.expr_types.specs.declared.item.Item.{Item}
+use Rattle.expr_plan.specs.ConditionReading.{condition_of}
 use Rattle.expr_plan.specs.Fault.{and_then}
-use Rattle.expr_plan.specs.Functions.{shape_of, next_operand}
-use Rattle.expr_plan.specs.Given.{is_given}
-use Rattle.expr_plan.specs.Helpers.{is_helper, helper_name, helper_param, is_full, names_any}
-use Rattle.expr_plan.specs.Items.{field_item, renamed_item}
+use Rattle.expr_plan.specs.Functions.{shape_of, next_operand, helpers_of}
+use Rattle.expr_plan.specs.Given.{Walked, is_given}
+use Rattle.expr_plan.specs.GroupReading.{group_of_call}
+use Rattle.expr_plan.specs.Helpers.{is_helper, helper_name, is_full, are_items, names_any}
+use Rattle.expr_plan.specs.Items.{field_item, item_of_call, metric_of_call, renamed_item}
 use Rattle.expr_plan.specs.Shapes.{bad, read_as}
 use Rattle.expr_plan.specs.declared.fault.PlanFault.{PlanFault}
-use Rattle.expr_plan.specs.declared.function.Function.{Function}
-use Rattle.expr_plan.specs.declared.function.Function.TheVariants.{Select, Having}
-use Rattle.expr_plan.specs.declared.function.Shape.{Shape}
-use Rattle.expr_plan.specs.declared.function.Shape.TheVariants as shape
-use Rattle.expr_plan.specs.declared.param.Given.{Given}
+use Rattle.expr_plan.specs.declared.row.Function.{Function}
 use Rattle.expr_plan.specs.declared.param.Param.{Param}
 use Rattle.expr_plan.specs.declared.param.Param.TheVariants as param
 use Rattle.expr_plan.specs.declared.param.Params.{Params}
-
--- what arguments have given: parameters, and a condition where there was one
-pub record Walked : Type 0 where
-  pub given : List Given
-  pub condition : Option ConditionTree
-
--- nothing yet
-abbrev pub nothing_given : Walked
-nothing_given = record { given = []; condition = None }
+use Rattle.expr_plan.specs.declared.row.Helpers.{Helpers}
+use Rattle.expr_plan.specs.declared.row.Helpers.TheVariants as helpers
+use Rattle.expr_plan.specs.declared.row.Shape.{Shape}
+use Rattle.expr_plan.specs.declared.row.Shape.TheVariants as shape
 
 -- what the program's parameters are
 abbrev pub walked : Params → Walked
@@ -51,10 +44,15 @@ abbrev pub with_read : Function → Walked → Option Param → Result Walked Pl
 with_read f w None = bad f (helper_name f)
 with_read f w (Some p) = Ok (with_param w (helper_name f) p)
 
--- a plain word: an item of `select`, else an operand
+-- what was read as an item
+abbrev pub with_item : Function → Walked → Option Item → Result Walked PlanFault
+with_item f w item = with_read f w (option_map param.Item item)
+
+-- a plain word: an item where there are items, else an operand
 abbrev pub with_plain : Function → Walked → ByteList → Result Walked PlanFault
-with_plain Select w text = with_read Select w (option_map param.Item (field_item text))
-with_plain f w text = with_operand f w text (next_operand f w.given)
+with_plain f w text =
+    if are_items (helpers_of f) then with_item f w (field_item text)
+    else with_operand f w text (next_operand f w.given)
 
 -- a parameter that was read under a key, unless it names a field that the function makes
 abbrev pub with_named : Function → List ByteList → Walked → ByteList → Param
@@ -87,29 +85,31 @@ with_call f w key (Some shape) =
     else (if may_be_call shape then Ok (with_param w key param.Nothing) else bad f key)
 
 -- a condition
-abbrev pub with_condition : Walked → Option ConditionTree → Result Walked PlanFault
-with_condition w None = bad Having (codes "condition")
-with_condition w (Some condition) =
+abbrev pub with_condition : Function → Walked → Option ConditionTree → Result Walked PlanFault
+with_condition f w None = bad f (codes "condition")
+with_condition f w (Some condition) =
     Ok (record (with_param w (codes "condition") param.Nothing) { condition = Some condition })
 
--- a helper
-abbrev pub with_helper : Function → Walked → CallTree → Result Walked PlanFault
-with_helper Having w c = with_condition w (condition_of c)
-with_helper f w c = with_read f w (helper_param f c)
+-- one of these helpers
+abbrev pub with_helper : Helpers → Function → Walked → CallTree → Result Walked PlanFault
+with_helper helpers.Nothing f w c = Ok w
+with_helper helpers.Items f w c = with_item f w (item_of_call c)
+with_helper helpers.Condition f w c = with_condition f w (condition_of c)
+with_helper helpers.Group f w c = with_read f w (option_map param.Group (group_of_call c))
+with_helper helpers.Metrics f w c = with_read f w (option_map param.Metric (metric_of_call c))
 
 -- a call: an input, which gives none of these, or a helper, of which there may be too many
 abbrev pub with_sub : Function → Walked → CallTree → Result Walked PlanFault
 with_sub f w c =
     if is_helper f c
-    then (if is_full f w.given then bad f (codes "operand") else with_helper f w c)
+    then (if is_full f w.given then bad f (codes "operand") else with_helper (helpers_of f) f w c)
     else Ok w
 
--- a call with a new name: an item of `select`, else an operand too many
+-- a call with a new name: an item where there are items, else an operand too many
 abbrev pub with_renamed : Function → Walked → CallTree → ByteList → Result Walked PlanFault
-with_renamed Select w c to =
-    if is_helper Select c then with_read Select w (option_map param.Item (renamed_item c to))
-    else bad Select (codes "operand")
-with_renamed f w c to = bad f (codes "operand")
+with_renamed f w c to =
+    if are_items (helpers_of f) && is_helper f c then with_item f w (renamed_item c to)
+    else bad f (codes "operand")
 
 -- one argument
 abbrev pub with_arg : Function → List ByteList → Walked → ArgTree → Result Walked PlanFault

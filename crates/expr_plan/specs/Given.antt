@@ -8,9 +8,19 @@ use Rattle.sort_spec.specs.declared.term.SortTerm.{SortTerm}
 use Rattle.expr_plan.specs.declared.param.Given.{Given}
 use Rattle.expr_plan.specs.declared.param.Param.{Param}
 use Rattle.expr_plan.specs.declared.param.Param.TheVariants as param
+use Rattle.expr_types.specs.ConditionTree.{ConditionTree}
 use Rattle.expr_types.specs.declared.item.GroupOp.{GroupOp}
 use Rattle.expr_types.specs.declared.item.Item.{Item}
 use Rattle.expr_types.specs.declared.item.Metric.{Metric}
+
+-- what arguments have given: parameters, and a condition where there was one
+pub record Walked : Type 0 where
+  pub given : List Given
+  pub condition : Option ConditionTree
+
+-- nothing yet
+abbrev pub nothing_given : Walked
+nothing_given = record { given = []; condition = None }
 
 -- whether there is a parameter of the name
 abbrev pub is_given : ByteList → List Given → Bool

@@ -8,11 +8,8 @@ use Rattle.expr_reader.specs.Tree.{CallTree, call, ArgTree}
 use Rattle.expr_reader.specs.declared.call.Word.{Word}
 use Rattle.expr_plan.specs.Literals.{within}
 use Rattle.expr_plan.specs.Words.{arg_list, word_under}
+use Rattle.expr_types.specs.Rules.{count_limit}
 use Rattle.expr_types.specs.declared.item.GroupOp.{GroupOp}
-
--- the greatest number of tuples that `top` and `group` may be asked for
-abbrev pub count_limit : ℕ
-count_limit = 1000000
 
 -- a group of a sort and a number that were read
 abbrev pub group_by : Reading (List SortTerm) → Option ℕ → Option GroupOp

@@ -11,10 +11,10 @@ use Rattle.expr_plan.specs.Functions.{name_of}
 use Rattle.expr_plan.specs.Literals.{literal, within}
 use Rattle.expr_plan.specs.declared.fault.PlanFault.{PlanFault}
 use Rattle.expr_plan.specs.declared.fault.PlanFault.TheVariants.{BadParam, BadSort, BadQuery}
-use Rattle.expr_plan.specs.declared.function.Function.{Function}
-use Rattle.expr_plan.specs.declared.function.Shape.{Shape}
-use Rattle.expr_plan.specs.declared.function.Shape.TheVariants.{Literal, Anything, Names}
-use Rattle.expr_plan.specs.declared.function.Shape.TheVariants.{FieldNames, Sort, Query, Number}
+use Rattle.expr_plan.specs.declared.row.Function.{Function}
+use Rattle.expr_plan.specs.declared.row.Shape.{Shape}
+use Rattle.expr_plan.specs.declared.row.Shape.TheVariants.{Literal, Anything, Names}
+use Rattle.expr_plan.specs.declared.row.Shape.TheVariants.{FieldNames, Sort, Query, Number}
 use Rattle.expr_plan.specs.declared.param.Param.{Param}
 use Rattle.expr_plan.specs.declared.param.Param.TheVariants as param
 

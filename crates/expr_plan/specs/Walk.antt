@@ -1,78 +1,26 @@
 -- What a call stands for, or its first fault: an unknown name, another number of inputs, the
 -- arguments from the left to the right, what is missing, and then the faults of the inputs (own).
 use Rattle.std.specs.Prelude.{ℕ, ◌+◌, List, [], ◌∷◌, ◌++◌, Option, Some, None}
-use Rattle.std.specs.Prelude.{Result, Ok, Err, codes, if◌then◌else◌}
-use Rattle.tuple_values.specs.Document.{ByteList, Doc, put}
-use Rattle.tuple_values.specs.Views.{datum_of}
+use Rattle.std.specs.Prelude.{Result, Ok, Err, if◌then◌else◌}
+use Rattle.tuple_values.specs.Document.{ByteList}
 use Rattle.expr_reader.specs.Tree.{CallTree, call, ArgTree, plain, named, named_call, sub, renamed}
 use Rattle.expr_reader.specs.Tree.{ArgTrees, no_args, an_arg}
-use Rattle.expr_plan.specs.Arguments.{Walked, nothing_given, with_args}
-use Rattle.expr_types.specs.ConditionTree.{ConditionTree, all_of, no_conditions}
-use Rattle.expr_types.specs.ExprTree.{Operator, search, tuple, select, having, sort, top, unique}
-use Rattle.expr_types.specs.ExprTree.{merge, reduce, rollup, ExprTree, node, inputs_of}
+use Rattle.expr_plan.specs.Given.{Walked, nothing_given}
+use Rattle.expr_plan.specs.Arguments.{with_args}
+use Rattle.expr_types.specs.ExprTree.{ExprTree, node, inputs_of}
 use Rattle.expr_plan.specs.Fault.{and_then}
 use Rattle.expr_plan.specs.Functions.{function_of, name_of, takes, first_missing}
-use Rattle.expr_plan.specs.Given.{param_at, text_in, names_in, names_maybe, sort_in, query_in}
-use Rattle.expr_plan.specs.Given.{number_in, count_in, group_in, items_in, metrics_in}
 use Rattle.expr_plan.specs.Helpers.{is_input, is_helper, made_names}
+use Rattle.expr_plan.specs.Table.{operator_of}
 use Rattle.expr_plan.specs.declared.fault.PlanFault.{PlanFault}
 use Rattle.expr_plan.specs.declared.fault.PlanFault.TheVariants.{UnknownFunction, MissingParam}
 use Rattle.expr_plan.specs.declared.fault.PlanFault.TheVariants.{WrongInputs}
-use Rattle.expr_plan.specs.declared.function.Function.{Function}
-use Rattle.expr_plan.specs.declared.function.Function.TheVariants.{Search, Tuple, Select, Having}
-use Rattle.expr_plan.specs.declared.function.Function.TheVariants.{Sort, Top, Unique, Merge}
-use Rattle.expr_plan.specs.declared.function.Function.TheVariants.{Reduce, Rollup}
-use Rattle.expr_plan.specs.declared.param.Given.{Given}
-use Rattle.expr_plan.specs.declared.param.Param.{Param}
-use Rattle.expr_plan.specs.declared.param.Param.TheVariants as param
+use Rattle.expr_plan.specs.declared.row.Function.{Function}
 
 -- how many inputs there are
 abbrev pub inputs_found : Function → ArgTrees → ℕ
 inputs_found f no_args = 0
 inputs_found f (an_arg a args) = (if is_input f a then 1 else 0) + inputs_found f args
-
--- the fields with one literal
-abbrev pub with_field : Doc → ByteList → Param → Doc
-with_field doc name (param.Literal v) = put name (datum_of v) doc
-with_field doc name p = doc
-
--- the fields with the literals
-abbrev pub with_fields : Doc → List Given → Doc
-with_fields doc [] = doc
-with_fields doc (g ∷ given) = with_fields (with_field doc g.name g.param) given
-
--- the condition; one that always holds where there is none
-abbrev pub condition_or_all : Option ConditionTree → ConditionTree
-condition_or_all None = all_of no_conditions
-condition_or_all (Some condition) = condition
-
--- the search of these parameters
-abbrev pub search_of : List Given → Operator
-search_of given =
-    search (record {
-      collection = text_in (param_at (codes "collection") given);
-      q = query_in (param_at (codes "q") given);
-      fl = names_in (param_at (codes "fl") given);
-      sort = sort_in (param_at (codes "sort") given);
-      rows = number_in (param_at (codes "rows") given);
-      partition_keys = names_maybe (param_at (codes "partitionKeys") given);
-    })
-
--- the operator of a function with these parameters
-abbrev pub operator_of : Function → Walked → Operator
-operator_of Search w = search_of w.given
-operator_of Tuple w = tuple (with_fields [] w.given)
-operator_of Select w = select (items_in w.given)
-operator_of Having w = having (condition_or_all w.condition)
-operator_of Sort w = sort (sort_in (param_at (codes "by") w.given))
-operator_of Top w =
-    top (count_in (param_at (codes "n") w.given)) (sort_in (param_at (codes "sort") w.given))
-operator_of Unique w = unique (names_in (param_at (codes "over") w.given))
-operator_of Merge w = merge (sort_in (param_at (codes "on") w.given))
-operator_of Reduce w =
-    reduce (names_in (param_at (codes "by") w.given))
-    (group_in (param_at (codes "group") w.given))
-operator_of Rollup w = rollup (names_in (param_at (codes "over") w.given)) (metrics_in w.given)
 
 -- the function of a name, which may be unknown
 abbrev pub known : ByteList → Option Function → Result Function PlanFault

@@ -3,12 +3,12 @@ ghost use Rattle.std.specs.Prelude.{◌≡◌, [], ◌∷◌, IfOk, OnOk, length
 ghost use Rattle.expr_plan.specs.Arguments.{walked};
 ghost use Rattle.expr_types.specs.ConditionViews.{condition_tree};
 ghost use Rattle.expr_types.specs.ExprTree.{node, inputs_of, tuple};
-ghost use Rattle.expr_types.specs.ExprViews.{expr_tree};
+ghost use Rattle.expr_types.specs.ExprTree.{expr_tree};
 ghost use Rattle.expr_plan.specs.Functions.{takes};
-ghost use Rattle.expr_plan.specs.Walk.{operator_of, search_of, condition_or_all, with_field, with_fields};
+ghost use Rattle.expr_plan.specs.Table.{operator_of, search_of, condition_or_all, with_field, with_fields};
 
-use crate::function::Function;
 use crate::param::{Given, Param, Params};
+use crate::row::Function;
 use crate::{Condition, Expr, Exprs};
 use std::alloc::Global;
 use tuple_values::{Memory, Tuple};

@@ -4,13 +4,12 @@ ghost use Rattle.std.specs.List.{list_any};
 ghost use Rattle.tuple_values.specs.Document.{is_named};
 ghost use Rattle.expr_reader.specs.Tree.{trees_of};
 ghost use Rattle.expr_reader.specs.Views.{call_tree, arg_tree};
-ghost use Rattle.expr_plan.specs.Helpers.{is_metric_word, is_condition_word, is_helper_word, is_helper, is_input, helper_name, helper_param, is_full, made_names, names_any};
+ghost use Rattle.expr_plan.specs.Helpers.{is_metric_word, is_condition_word, is_helper_word, is_helper, is_input, are_items, is_single, helper_name, is_full, made_by, made_names, names_any};
 
-use crate::function::Function;
-use crate::groups::group_of;
-use crate::items::item_of;
-use crate::metrics::{metric_names, metric_of};
+use crate::function::helper_word;
+use crate::metrics::metric_names;
 use crate::param::{Param, Params};
+use crate::row::{Function, Helpers};
 use expr_reader::{Arg, Args, Call};
 use std::alloc::Global;
 use tuple_values::{FieldList, Memory, Text};
@@ -35,15 +34,15 @@ fn is_condition_word(name: &str) -> bool
         || name == "not"
 }
 
-fn is_helper_word(function: Function, name: &str) -> bool
-    ensures { result ≡ is_helper_word function name.now }
+fn is_helper_word(helpers: Helpers, name: &str) -> bool
+    ensures { result ≡ is_helper_word helpers name.now }
 {
-    match function {
-        Function::Select => is_metric_word(name) || name == "replace" || name == "concat",
-        Function::Having => is_condition_word(name),
-        Function::Reduce => name == "group",
-        Function::Rollup => is_metric_word(name),
-        _ => false,
+    match helpers {
+        Helpers::Nothing => false,
+        Helpers::Items => is_metric_word(name) || name == "replace" || name == "concat",
+        Helpers::Condition => is_condition_word(name),
+        Helpers::Group => name == "group",
+        Helpers::Metrics => is_metric_word(name),
     }
 }
 
@@ -51,7 +50,7 @@ fn is_helper_word(function: Function, name: &str) -> bool
 pub(crate) fn is_helper(function: Function, call: &Call) -> bool
     ensures { result ≡ is_helper function (call_tree call.now) }
 {
-    is_helper_word(function, call.name.as_str())
+    is_helper_word(function.helpers(), call.name.as_str())
 }
 
 /// Whether an argument is an input of the function.
@@ -60,7 +59,27 @@ pub(crate) fn is_input(function: Function, arg: &Arg) -> bool
 {
     match arg {
         Arg::Sub(call) => !is_helper(function, call),
-        _ => false,
+        Arg::Plain(_) | Arg::Named { .. } | Arg::Renamed { .. } => false,
+    }
+}
+
+/// Whether these helpers are items.
+pub(crate) fn are_items(helpers: Helpers) -> bool
+    ensures { result ≡ are_items helpers }
+{
+    match helpers {
+        Helpers::Items => true,
+        Helpers::Nothing | Helpers::Condition | Helpers::Group | Helpers::Metrics => false,
+    }
+}
+
+// Whether there may be but one of these helpers.
+fn is_single(helpers: Helpers) -> bool
+    ensures { result ≡ is_single helpers }
+{
+    match helpers {
+        Helpers::Condition | Helpers::Group => true,
+        Helpers::Nothing | Helpers::Items | Helpers::Metrics => false,
     }
 }
 
@@ -68,44 +87,32 @@ pub(crate) fn is_input(function: Function, arg: &Arg) -> bool
 pub(crate) fn helper_name(function: Function) -> &'static str
     ensures { result.now ≡ helper_name function }
 {
-    match function {
-        Function::Select => "item",
-        Function::Having => "condition",
-        Function::Reduce => "group",
-        Function::Rollup => "metric",
-        _ => "",
-    }
-}
-
-/// What a helper is as a parameter, if it can be read; a condition stands apart.
-pub(crate) fn helper_param(
-    alloc: Global,
-    function: Function,
-    call: &Call,
-) -> Result<Option<Param>, Memory>
-    ensures { IfOk result (λ param. param ≡ helper_param function (call_tree call.now)) }
-{
-    match function {
-        Function::Select => Ok(item_of(alloc, call)?.map(Param::Item)),
-        Function::Reduce => Ok(group_of(alloc, call)?.map(Param::Group)),
-        Function::Rollup => Ok(metric_of(alloc, call)?.map(Param::Metric)),
-        _ => Ok(None),
-    }
+    helper_word(function.helpers())
 }
 
 /// Whether the function takes no helper besides those that are given.
 pub(crate) fn is_full(function: Function, params: &Params) -> bool
     ensures { result ≡ is_full function params.now.items.items }
 {
-    match function {
-        Function::Having => params.has("condition"),
-        Function::Reduce => params.has("group"),
-        _ => false,
+    is_single(function.helpers()) && params.has(helper_name(function))
+}
+
+#[tactic(auto, using(crate::proofs::WordsLemmas::list_steps))]
+fn made_by(alloc: Global, helpers: Helpers, args: &Args) -> Result<FieldList, Memory>
+    ensures { IfOk result (λ names. names ≡ made_by helpers (trees_of args.now)) }
+{
+    match helpers {
+        Helpers::Nothing | Helpers::Items | Helpers::Condition => Ok(FieldList::new(alloc)),
+        Helpers::Group => {
+            let mut names = FieldList::new(alloc);
+            names.push(Text::of(alloc, "group")?)?;
+            Ok(names)
+        }
+        Helpers::Metrics => metric_names(alloc, args),
     }
 }
 
 /// The fields that a function of these arguments makes of each key.
-#[tactic(auto, using(crate::proofs::WordsLemmas::list_steps))]
 pub(crate) fn made_names(
     alloc: Global,
     function: Function,
@@ -113,15 +120,7 @@ pub(crate) fn made_names(
 ) -> Result<FieldList, Memory>
     ensures { IfOk result (λ names. names ≡ made_names function (trees_of args.now)) }
 {
-    match function {
-        Function::Reduce => {
-            let mut names = FieldList::new(alloc);
-            names.push(Text::of(alloc, "group")?)?;
-            Ok(names)
-        }
-        Function::Rollup => metric_names(alloc, args),
-        _ => Ok(FieldList::new(alloc)),
-    }
+    made_by(alloc, function.helpers(), args)
 }
 
 fn any_named(made: &[Text], names: &FieldList) -> bool

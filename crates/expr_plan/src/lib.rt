@@ -13,6 +13,7 @@ mod metrics;
 mod param;
 mod planning;
 mod reading;
+mod row;
 #[cfg(test)]
 mod tests;
 mod walk;
@@ -22,4 +23,4 @@ pub use expr_types::{
     Comparison, Condition, Conditions, Expr, Exprs, GroupOp, Item, Items, Metric, Metrics,
 };
 pub use fault::PlanFault;
-pub use planning::plan;
+pub use planning::{first_fault_is_told, plan};

@@ -1,20 +1,22 @@
 // What a call stands for.
-ghost use Rattle.std.specs.Prelude.{◌≡◌, [], IfOk, IfErr, MatchResult, Ok, map, option_map};
+ghost use Rattle.std.specs.Prelude.{◌≡◌, ◌≤◌, [], IfOk, IfErr, MatchResult, Ok, map, option_map};
 ghost use Rattle.std.specs.List.{cons_option};
-ghost use Rattle.expr_reader.specs.Tree.{trees_of};
+ghost use Rattle.expr_reader.specs.Tree.{trees_of, calls, call_limit};
 ghost use Rattle.expr_reader.specs.Views.{call_tree, arg_tree};
 ghost use Rattle.expr_plan.specs.Arguments.{walked};
-ghost use Rattle.expr_types.specs.ExprViews.{expr_tree};
+ghost use Rattle.expr_types.specs.ExprTree.{expr_tree};
 ghost use Rattle.expr_plan.specs.Fault.{IsFaultOf};
 ghost use Rattle.expr_plan.specs.Functions.{name_of};
-ghost use Rattle.expr_types.specs.Lists.{AreKeysKept};
+ghost use Rattle.expr_types.specs.Planned.{IsPlanned};
+ghost use Rattle.expr_plan.specs.Law.{TellsFirst, StandsIfFaultless, AreKnown};
 ghost use Rattle.expr_plan.specs.Walk.{walked_of, planned, inputs_planned, input_planned};
 ghost use Rattle.expr_plan.specs.declared.fault.PlanFault.TheVariants.{MissingParam, WrongInputs};
 
 use crate::building::expression;
-use crate::function::{Function, function_of};
+use crate::function::function_of;
 use crate::helpers::{is_helper, made_names};
 use crate::param::{Params, push_some};
+use crate::row::Function;
 use crate::walk::{inputs_found, params_of};
 use crate::{Expr, Exprs, PlanFault};
 use expr_reader::{Arg, Args, Call};
@@ -60,7 +62,8 @@ fn walk_args(alloc: Global, function: Function, args: &Args) -> Result<Params, P
 #[cycle(planning)]
 pub fn plan(alloc: Global, call: &Call) -> Result<Expr, PlanFault>
     ensures ok { IfOk result (λ e. planned (call_tree call.now) ≡ Ok (expr_tree e)) }
-    ensures well { IfOk result (λ e. AreKeysKept (expr_tree e)) }
+    ensures planned { IfOk result (λ e. calls (call_tree call.now) ≤ call_limit
+        → IsPlanned (expr_tree e)) }
     ensures err { IfErr result (IsFaultOf (planned (call_tree call.now))) }
 {
     let Some(function) = function_of(call.name.as_str()) else {
@@ -72,6 +75,14 @@ pub fn plan(alloc: Global, call: &Call) -> Result<Expr, PlanFault>
     Ok(expression(alloc, function, params, inputs)?)
 }
 
+/// The law of plans: the fault that is told of a call is the first of all its faults, and a call
+/// without one stands for an expression.
+pub fn first_fault_is_told()
+    ensures first { TellsFirst }
+    ensures faultless { StandsIfFaultless }
+    ensures known { AreKnown }
+{}
+
 // What an argument stands for that may be an input.
 #[cycle(planning)]
 fn plan_input(alloc: Global, function: Function, arg: &Arg) -> Result<Option<Expr>, PlanFault>
@@ -82,7 +93,7 @@ fn plan_input(alloc: Global, function: Function, arg: &Arg) -> Result<Option<Exp
 {
     match arg {
         Arg::Sub(call) if !is_helper(function, call) => Ok(Some(plan(alloc, call)?)),
-        _ => Ok(None),
+        Arg::Plain(_) | Arg::Named { .. } | Arg::Sub(_) | Arg::Renamed { .. } => Ok(None),
     }
 }
 

@@ -10,9 +10,9 @@ ghost use Rattle.expr_plan.specs.Shapes.{number_param, names_param, fields_param
 ghost use Rattle.expr_plan.specs.declared.fault.PlanFault.TheVariants.{BadParam};
 
 use crate::PlanFault;
-use crate::function::{Function, Shape};
 use crate::literals::{literal, within};
 use crate::param::Param;
+use crate::row::{Function, Shape};
 use expr_reader::Word;
 use query_syntax::{QueryFault, read_query};
 use sort_spec::{SortFault, read_names, read_sort};

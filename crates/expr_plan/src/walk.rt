@@ -2,19 +2,22 @@
 ghost use Rattle.std.specs.Prelude.{◌≡◌, MatchResult, Ok, option_map};
 ghost use Rattle.expr_reader.specs.Tree.{trees_of};
 ghost use Rattle.expr_reader.specs.Views.{arg_tree, call_tree};
-ghost use Rattle.expr_plan.specs.Arguments.{nothing_given, walked, with_operand, with_read, with_plain, with_word, may_be_call, with_call, with_condition, with_helper, with_sub, with_renamed, with_arg, with_args};
+ghost use Rattle.expr_plan.specs.Given.{nothing_given};
+ghost use Rattle.expr_plan.specs.Arguments.{walked, with_operand, with_read, with_item, with_plain, with_word, may_be_call, with_call, with_condition, with_helper, with_sub, with_renamed, with_arg, with_args};
 ghost use Rattle.expr_plan.specs.ConditionReading.{condition_of};
 ghost use Rattle.expr_plan.specs.Fault.{IsFaultOf};
 ghost use Rattle.expr_plan.specs.Functions.{next_operand, shape_of};
 ghost use Rattle.expr_plan.specs.Walk.{inputs_found};
 
-use crate::PlanFault;
 use crate::conditions::condition_of;
-use crate::function::{Function, Shape};
-use crate::helpers::{helper_name, helper_param, is_full, is_helper, is_input, names_any};
-use crate::items::{field_item, renamed_item};
+use crate::groups::group_of;
+use crate::helpers::{are_items, helper_name, is_full, is_helper, is_input, names_any};
+use crate::items::{field_item, item_of, renamed_item};
+use crate::metrics::metric_of;
 use crate::param::{Param, Params};
 use crate::reading::{bad, read_as};
+use crate::row::{Function, Helpers, Shape};
+use crate::{Item, PlanFault};
 use expr_reader::{Arg, ArgValue, Args, Call, Word};
 use std::alloc::Global;
 use tuple_values::{FieldList, Text, TryCopy};
@@ -62,6 +65,20 @@ fn add_read(
     }
 }
 
+// What was read as an item.
+fn add_item(
+    alloc: Global,
+    function: Function,
+    params: &mut Params,
+    item: Option<Item>,
+) -> Result<(), PlanFault>
+    ensures { MatchResult result
+        (λ _. with_item function (walked params.old) item ≡ Ok (walked params.new))
+        (IsFaultOf (with_item function (walked params.old) item)) }
+{
+    add_read(alloc, function, params, item.map(Param::Item))
+}
+
 fn add_plain(
     alloc: Global,
     function: Function,
@@ -72,12 +89,11 @@ fn add_plain(
         (λ _. with_plain function (walked params.old) word.now.text ≡ Ok (walked params.new))
         (IsFaultOf (with_plain function (walked params.old) word.now.text)) }
 {
-    match function {
-        Function::Select => {
-            let item = field_item(alloc, word.text.as_str())?;
-            add_read(alloc, function, params, item.map(Param::Item))
-        }
-        _ => add_operand(alloc, function, params, word),
+    if are_items(function.helpers()) {
+        let item = field_item(alloc, word.text.as_str())?;
+        add_item(alloc, function, params, item)
+    } else {
+        add_operand(alloc, function, params, word)
     }
 }
 
@@ -143,11 +159,17 @@ fn add_call(
     }
 }
 
-fn add_condition(alloc: Global, params: &mut Params, call: &Call) -> Result<(), PlanFault>
+fn add_condition(
+    alloc: Global,
+    function: Function,
+    params: &mut Params,
+    call: &Call,
+) -> Result<(), PlanFault>
     ensures { MatchResult result
-        (λ _. with_condition (walked params.old) (condition_of (call_tree call.now))
+        (λ _. with_condition function (walked params.old) (condition_of (call_tree call.now))
         ≡ Ok (walked params.new))
-        (IsFaultOf (with_condition (walked params.old) (condition_of (call_tree call.now)))) }
+        (IsFaultOf (with_condition function (walked params.old)
+        (condition_of (call_tree call.now)))) }
 {
     match condition_of(alloc, call)? {
         Some(condition) => {
@@ -155,26 +177,36 @@ fn add_condition(alloc: Global, params: &mut Params, call: &Call) -> Result<(), 
             params.put_condition(condition);
             Ok(())
         }
-        None => Err(bad(alloc, Function::Having, "condition")?),
+        None => Err(bad(alloc, function, "condition")?),
     }
 }
 
 fn add_helper(
     alloc: Global,
+    helpers: Helpers,
     function: Function,
     params: &mut Params,
     call: &Call,
 ) -> Result<(), PlanFault>
     ensures { MatchResult result
-        (λ _. with_helper function (walked params.old) (call_tree call.now)
+        (λ _. with_helper helpers function (walked params.old) (call_tree call.now)
         ≡ Ok (walked params.new))
-        (IsFaultOf (with_helper function (walked params.old) (call_tree call.now))) }
+        (IsFaultOf (with_helper helpers function (walked params.old) (call_tree call.now))) }
 {
-    match function {
-        Function::Having => add_condition(alloc, params, call),
-        _ => {
-            let read = helper_param(alloc, function, call)?;
-            add_read(alloc, function, params, read)
+    match helpers {
+        Helpers::Nothing => Ok(()),
+        Helpers::Items => {
+            let item = item_of(alloc, call)?;
+            add_item(alloc, function, params, item)
+        }
+        Helpers::Condition => add_condition(alloc, function, params, call),
+        Helpers::Group => {
+            let group = group_of(alloc, call)?;
+            add_read(alloc, function, params, group.map(Param::Group))
+        }
+        Helpers::Metrics => {
+            let metric = metric_of(alloc, call)?;
+            add_read(alloc, function, params, metric.map(Param::Metric))
         }
     }
 }
@@ -196,7 +228,7 @@ fn add_sub(
     if is_full(function, params) {
         return Err(bad(alloc, function, "operand")?);
     }
-    add_helper(alloc, function, params, call)
+    add_helper(alloc, function.helpers(), function, params, call)
 }
 
 fn add_renamed(
@@ -211,12 +243,11 @@ fn add_renamed(
         ≡ Ok (walked params.new))
         (IsFaultOf (with_renamed function (walked params.old) (call_tree call.now) to.now)) }
 {
-    match function {
-        Function::Select if is_helper(function, call) => {
-            let item = renamed_item(alloc, call, to)?;
-            add_read(alloc, function, params, item.map(Param::Item))
-        }
-        _ => Err(bad(alloc, function, "operand")?),
+    if are_items(function.helpers()) && is_helper(function, call) {
+        let item = renamed_item(alloc, call, to)?;
+        add_item(alloc, function, params, item)
+    } else {
+        Err(bad(alloc, function, "operand")?)
     }
 }
 

@@ -1,6 +1,6 @@
 use Rattle.std.proofs.Common.{◌≡◌, ◌∙◌, ap, sym, refl, codes}
 use Rattle.expr_types.specs.ExprTree.{ExprTree}
-use Rattle.expr_types.specs.ExprViews.{expr_tree, expr_step}
+use Rattle.expr_types.specs.ExprTree.{expr_tree, expr_step}
 use Rattle.expr_plan.specs.Given.{param_at, group_in}
 use Rattle.expr_types.specs.declared.expr.Expr.TheVariants as expr
 use Rattle.expr_types.specs.declared.expr.Expr.TheFolds.{fold-roll-Expr}

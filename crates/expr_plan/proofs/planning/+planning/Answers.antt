@@ -5,12 +5,12 @@ use Rattle.std.proofs.lemmas.List.{length-map}
 use Rattle.std.proofs.lemmas.Result.{err_from_is_err_and}
 use Rattle.expr_reader.specs.Tree.{trees_of}
 use Rattle.expr_reader.specs.Views.{arg_tree, call_tree}
-use Rattle.expr_types.specs.ExprViews.{expr_tree}
+use Rattle.expr_types.specs.ExprTree.{expr_tree}
 use Rattle.expr_plan.specs.Arguments.{walked}
 use Rattle.expr_plan.specs.Functions.{function_of, takes}
 use Rattle.expr_plan.specs.Walk.{inputs_planned, inputs_found}
 use Rattle.expr_plan.proofs.InputLemmas.{behind, exprs-push, input_read, input_refused}
-use Rattle.expr_plan.proofs.PlannedLemmas.{planned_kept, walked_takes, inputs_width}
+use Rattle.expr_plan.proofs.PlannedLemmas.{planned_is, walked_takes, inputs_width}
 use Rattle.expr_plan.proofs.planning.+planning.Goals as goal
 
 pub plan-returns-clause-ok : goal.plan-returns-clause-ok
@@ -30,9 +30,9 @@ plan-expression-requires t c =
     ∙ inputs_width f args (map expr_tree inputs) c.in_ok-inputs.ensures in
     ap (takes f) width ∙ walked_takes f args (walked c.in_ok-params.params) c.in_ok-params.ensures
 
-pub plan-returns-clause-well : goal.plan-returns-clause-well
-plan-returns-clause-well t c =
-    planned_kept (call_tree c.args.call.now) (expr_tree c.in_ok-expression.field-0)
+pub plan-returns-clause-planned : goal.plan-returns-clause-planned
+plan-returns-clause-planned t c =
+    planned_is (call_tree c.args.call.now) (expr_tree c.in_ok-expression.field-0)
     (plan-returns-clause-ok t c)
 
 pub plan_inputs-returns-in_err-input : goal.plan_inputs-returns-in_err-input

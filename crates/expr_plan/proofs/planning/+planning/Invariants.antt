@@ -1,6 +1,6 @@
 use Rattle.std.proofs.Common.{◌≡◌, map, drop}
 use Rattle.expr_reader.specs.Tree.{trees_of}
-use Rattle.expr_types.specs.ExprViews.{expr_tree}
+use Rattle.expr_types.specs.ExprTree.{expr_tree}
 use Rattle.expr_plan.specs.Walk.{inputs_planned}
 use Rattle.expr_plan.proofs.InputLemmas.{behind}
 use Rattle.expr_plan.proofs.planning.+planning.Given as goal

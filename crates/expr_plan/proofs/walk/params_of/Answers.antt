@@ -2,7 +2,8 @@ use Rattle.std.proofs.Common.{◌<◌, length, sym, subst, ◌∙◌, arith}
 use Rattle.std.proofs.lemmas.Result.{err_from_is_err_and}
 use Rattle.expr_reader.specs.Tree.{trees_of}
 use Rattle.expr_reader.specs.Views.{arg_tree}
-use Rattle.expr_plan.specs.Arguments.{nothing_given, walked, with_args}
+use Rattle.expr_plan.specs.Given.{nothing_given}
+use Rattle.expr_plan.specs.Arguments.{walked, with_args}
 use Rattle.expr_plan.specs.Fault.{IsFaultOf}
 use Rattle.expr_plan.proofs.WalkLemmas.{arg_read, arg_refused}
 use Rattle.expr_plan.proofs.walk.params_of.Goals as goal

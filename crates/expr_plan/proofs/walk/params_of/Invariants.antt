@@ -1,6 +1,7 @@
 use Rattle.std.proofs.Common.{◌≡◌, drop}
 use Rattle.expr_reader.specs.Tree.{trees_of}
-use Rattle.expr_plan.specs.Arguments.{nothing_given, walked, with_args}
+use Rattle.expr_plan.specs.Given.{nothing_given}
+use Rattle.expr_plan.specs.Arguments.{walked, with_args}
 use Rattle.expr_plan.proofs.walk.params_of.Given as goal
 
 -- what is left to do of the arguments is what was to do at the start
