@@ -1,8 +1,8 @@
 -- The one part of all tuples.
-use Rattle.std.proofs.Common.{◌≡◌, ℕ, ◌%◌, ◌==◌, List, [], ◌∷◌, true, refl, ap, ◌∙◌, arith}
+use Rattle.std.proofs.Common.{◌≡◌, ℕ, ◌%◌, ◌==◌, List, [], ◌∷◌, true, refl, ap, arith}
 use Rattle.tuple_values.specs.Document.{ByteList, Doc}
 use Rattle.tuple_values.specs.Keys.{key_text, hash_of}
-use Rattle.source_streams.specs.Parts.{is_of_part, part_of}
+use Rattle.source_streams.specs.Parts.{part_of}
 
 -- each number is of the one part
 rest_of_one : (n : ℕ) → ((n % 1) == 0) ≡ true

@@ -1,10 +1,11 @@
 -- What a source gives (own).
 use Rattle.std.specs.Prelude.{◌≡◌, List, [], ◌∷◌, Option, Some, None}
 use Rattle.std.specs.Option.{option_map_or}
-use Rattle.tuple_values.specs.Document.{ByteList, Doc}
+use Rattle.tuple_values.specs.Document.{Doc}
 use Rattle.shard_versions.specs.declared.cut.CutPart.{CutPart}
 use Rattle.expr_types.specs.ExprTree.{SearchParts}
-use Rattle.expr_types.specs.Sources.{search_list, search_parts, tuple_fields}
+use Rattle.expr_types.specs.Sources.{search_list}
+use Rattle.expr_types.specs.Parts.{search_parts, tuple_fields}
 use Rattle.expr_types.specs.declared.expr.Expr.{Expr}
 use Rattle.source_streams.specs.Cuts.{documents_of}
 use Rattle.source_streams.specs.Parts.{part_of, keys_of}

@@ -3,7 +3,8 @@ ghost use Rattle.std.specs.Prelude.{◌≡◌, ◌<◌, ◌==◌, ◌%◌, ◌++
 ghost use Rattle.query_syntax.specs.Matching.{matches};
 ghost use Rattle.sort_spec.specs.Sorting.{ins_sort};
 ghost use Rattle.sort_spec.specs.Terms.{less};
-ghost use Rattle.expr_types.specs.Sources.{search_parts, first_rows, then_by_id, cut_to};
+ghost use Rattle.expr_types.specs.Parts.{search_parts};
+ghost use Rattle.expr_types.specs.Sources.{first_rows, then_by_id, cut_to};
 ghost use Rattle.source_streams.specs.Cuts.{documents_of};
 ghost use Rattle.source_streams.specs.Parts.{is_of_part, part_of, keys_of};
 ghost use Rattle.source_streams.specs.Reads.{IsNext, searched};

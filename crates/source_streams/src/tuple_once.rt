@@ -1,6 +1,6 @@
 // The source of one tuple.
 ghost use Rattle.std.specs.Prelude.{◌≡◌, IsOk, IsSome, IfOk};
-ghost use Rattle.expr_types.specs.Sources.{tuple_fields};
+ghost use Rattle.expr_types.specs.Parts.{tuple_fields};
 ghost use Rattle.source_streams.specs.Reads.{IsNext, told};
 
 use expr_types::Expr;

@@ -1,3 +1,4 @@
 pub mod Inputs
 pub mod Openings
 pub mod Searches
+pub mod SendLemmas

@@ -1,12 +1,13 @@
 -- The streams of an expression's inputs, one after another.
-use Rattle.std.proofs.Common.{◌≡◌, ℕ, zero, suc, ◌+◌, ◌<◌, List, [], ◌∷◌, ◌++◌, length, get_or, drop}
-use Rattle.std.proofs.Common.{map, refl, ap, sym, ◌∙◌, subst, append_assoc, arith}
+use Rattle.std.proofs.Common.{◌≡◌, ℕ, suc, ◌+◌, ◌<◌, List, [], ◌∷◌, ◌++◌, length, get_or, drop}
+use Rattle.std.proofs.Common.{refl, ap, sym, ◌∙◌, subst, append_assoc}
 use Rattle.std.specs.Prelude.{slice_index_or, Result, Ok, Err, IfOk}
 use Rattle.std.specs.List.{AllByRecursion}
 use Rattle.std.proofs.lemmas.List.{at_drop_more, map-append}
 use Rattle.tuple_values.specs.Document.{ByteList, Doc}
 use Rattle.expr_types.specs.ExprTree.{ExprTree, inputs_of, inputs_in, operator_in, first_or}
-use Rattle.expr_types.specs.Lists.{Collections, given, list_of, lists_of, AreAsNeeded, AreSorted}
+use Rattle.expr_types.specs.Rules.{Collections, given, AreAsNeeded}
+use Rattle.expr_types.specs.Lists.{list_of, lists_of, AreSorted}
 use Rattle.expr_types.specs.Lists.{AreAllSorted}
 use Rattle.expr_types.specs.Orders.{IsSortedOver}
 use Rattle.expr_types.proofs.TreeLemmas.{node-parts}

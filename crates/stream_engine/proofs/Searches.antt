@@ -6,11 +6,11 @@ use Rattle.expr_types.specs.ExprTree.{Operator, search, tuple, select, having, s
 use Rattle.expr_types.specs.ExprTree.{merge, reduce, rollup, inner_join, left_outer_join, intersect}
 use Rattle.expr_types.specs.ExprTree.{complement, hash_join, outer_hash_join, in_parallel, topic}
 use Rattle.expr_types.specs.ExprTree.{update, commit, daemon, SearchParts, operator_in}
-use Rattle.expr_types.specs.ExprViews.{expr_tree}
-use Rattle.expr_types.specs.Lists.{Collections, given}
-use Rattle.expr_types.specs.Sources.{search_list, search_parts, parts_of}
+use Rattle.expr_types.specs.ExprTree.{expr_tree}
+use Rattle.expr_types.specs.Rules.{Collections, given}
+use Rattle.expr_types.specs.Sources.{search_list}
+use Rattle.expr_types.specs.Parts.{search_parts, parts_of}
 use Rattle.expr_types.specs.declared.expr.Expr.{Expr}
-use Rattle.expr_types.proofs.SourceLemmas.{parts_of-tree}
 use Rattle.shard_versions.specs.declared.cut.CutPart.{CutPart}
 use Rattle.source_streams.specs.Cuts.{documents_of}
 use Rattle.source_streams.specs.Parts.{keys_of}
@@ -63,5 +63,4 @@ pub searched_whole : (e : Expr) (cut : List CutPart) (part : Part) (lists : List
     → IsSome (search_parts e) → part.index ≡ 0 → part.of ≡ 1
     → searched e cut part ≡ given (λ c. documents_of c cut) (operator_in (expr_tree e)) lists
 searched_whole e cut part lists some index of =
-    found_whole cut part (operator_in (expr_tree e)) lists (search_parts e) (parts_of-tree e) some
-    index of
+    found_whole cut part (operator_in (expr_tree e)) lists (search_parts e) refl some index of

@@ -2,10 +2,11 @@
 ghost use Rattle.std.specs.Prelude.{◌≡◌, IfOk, IsSome, [], List, length, false};
 ghost use Rattle.tuple_values.specs.Document.{Doc};
 ghost use Rattle.expr_types.specs.ExprTree.{inputs_in, inputs_of, operator_in, first_or};
-ghost use Rattle.expr_types.specs.ExprViews.{expr_tree};
-ghost use Rattle.expr_types.specs.Lists.{Collections, given, list_of, lists_of, AreAsNeeded};
+ghost use Rattle.expr_types.specs.ExprTree.{expr_tree};
+ghost use Rattle.expr_types.specs.Rules.{Collections, given, AreAsNeeded};
+ghost use Rattle.expr_types.specs.Lists.{list_of, lists_of};
 ghost use Rattle.expr_types.specs.Lists.{AreSorted, AreAllSorted};
-ghost use Rattle.expr_types.specs.Sources.{search_parts, tuple_fields};
+ghost use Rattle.expr_types.specs.Parts.{search_parts, tuple_fields};
 ghost use Rattle.expr_check.specs.Views.{tree_of};
 ghost use Rattle.source_streams.specs.Cuts.{documents_of};
 ghost use Rattle.stream_engine.specs.Flows.{rests_of};

@@ -1,8 +1,9 @@
 use Rattle.std.proofs.Common.{◌≡◌, ◌<◌, ◌+◌, ◌++◌, ◌∙◌, ap, sym, subst, length, drop, List, IfOk, arith}
 use Rattle.tuple_values.specs.Document.{Doc}
 use Rattle.expr_types.specs.ExprTree.{inputs_in, inputs_of, operator_in}
-use Rattle.expr_types.specs.ExprViews.{expr_tree}
-use Rattle.expr_types.specs.Lists.{Collections, given, lists_of, AreAsNeeded}
+use Rattle.expr_types.specs.ExprTree.{expr_tree}
+use Rattle.expr_types.specs.Rules.{Collections, given, AreAsNeeded}
+use Rattle.expr_types.specs.Lists.{lists_of}
 use Rattle.source_streams.specs.Cuts.{documents_of}
 use Rattle.stream_engine.specs.Flows.{Flow, rests_of}
 use Rattle.stream_engine.proofs.Openings.{list_of-parts, sorted_parts, sorted_more, rests_more}

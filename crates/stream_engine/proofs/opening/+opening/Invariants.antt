@@ -1,6 +1,7 @@
 use Rattle.std.proofs.Common.{◌≡◌, ◌+◌, ◌*◌, ◌++◌, drop}
-use Rattle.expr_types.specs.ExprTree.{inputs_in, inputs_of, height}
-use Rattle.expr_types.specs.ExprViews.{expr_tree}
+use Rattle.expr_types.specs.ExprTree.{inputs_in, inputs_of}
+use Rattle.expr_types.specs.Heights.{height}
+use Rattle.expr_types.specs.ExprTree.{expr_tree}
 use Rattle.expr_types.specs.Lists.{lists_of, AreAllSorted}
 use Rattle.source_streams.specs.Cuts.{documents_of}
 use Rattle.stream_engine.specs.Flows.{rests_of}

@@ -1,9 +1,8 @@
-use Rattle.std.proofs.Common.{◌≡◌, [], ◌∷◌, ◌∙◌, ap, sym, subst, length, map, List}
-use Rattle.tuple_values.specs.Document.{Doc}
+use Rattle.std.proofs.Common.{◌≡◌, [], ◌∷◌, ◌∙◌, ap, sym, subst, length, map}
 use Rattle.expr_types.specs.ExprTree.{ExprTree, node, merge, reduce, rollup, inputs_of, inputs_in}
 use Rattle.expr_types.specs.ExprTree.{operator_in}
-use Rattle.expr_types.specs.ExprViews.{expr_tree, expr_step}
-use Rattle.expr_types.specs.Lists.{Collections, given, AreAsNeeded}
+use Rattle.expr_types.specs.ExprTree.{expr_tree, expr_step}
+use Rattle.expr_types.specs.Rules.{Collections, given, AreAsNeeded}
 use Rattle.expr_types.specs.Orders.{IsSortedOver}
 use Rattle.expr_types.specs.declared.expr.Expr.TheVariants as expr
 use Rattle.expr_types.specs.declared.expr.Expr.TheFolds.{fold-roll-Expr}

@@ -1,7 +1,7 @@
-use Rattle.std.proofs.Common.{arith, sym, ◌∙◌, ap, subst, length-set, ◌≡◌, ◌<◌, length, List, Bool}
+use Rattle.std.proofs.Common.{arith, sym, ◌∙◌, ap, subst, length-set, ◌<◌, length}
 use Rattle.std.specs.Prelude.{slice_index_or}
 use Rattle.source_streams.specs.Reads.{IsNext}
-use Rattle.stream_engine.specs.Flows.{Flow, rests_of}
+use Rattle.stream_engine.specs.Flows.{Flow}
 use Rattle.stream_engine.specs.Kernels.{any_out, any_ready, any_ended}
 use Rattle.stream_engine.proofs.Inputs.{fed_kept, fed_falls, fed_width, deepest_set, flag_within}
 use Rattle.stream_engine.proofs.stream.+reading.Goals as goal
