@@ -155,3 +155,44 @@ meets-matches (pair ∷ on) (term ∷ order) left right =
     then_eq (directed term.descending _) (order_of (terms_of on order) left right)
     ∙ ap (λ b. b && meets (terms_of on order) left right) (directed_eq term.descending _)
     ∙ ap (λ b. is_met pair left right && b) (meets-matches on order left right)
+
+-- keys that are equal compare alike with any other
+along : (terms : List JoinTerm) (c a b : Key) → key_cmp terms a b ≡ Equal
+    → key_cmp terms c a ≡ key_cmp terms c b
+along terms c a b e =
+    let total = key_cmp_total terms in
+    total.antisymm c a ∙ ap ordering_reverse (total.congr a b c e) ∙ sym (total.antisymm c b)
+
+-- a left document compares alike with right ones of one key
+pub order_of-tied : (terms : List JoinTerm) (left right other : Doc)
+    → key_cmp terms (right_key right) (right_key other) ≡ Equal
+    → order_of terms left right ≡ order_of terms left other
+order_of-tied terms left right other e =
+    along terms (left_key left) (right_key right) (right_key other) e
+
+-- an order is equal where the test says so
+eq_is : (order : Ordering) → is_eq order ≡ true → order ≡ Equal
+eq_is Less e = absurd (cc)
+eq_is Equal e = refl
+eq_is Greater e = absurd (cc)
+
+-- right documents that match one left document have one key
+pub tied_by : (terms : List JoinTerm) (left right other : Doc) → meets terms left right ≡ true
+    → meets terms left other ≡ true → key_cmp terms (right_key right) (right_key other) ≡ Equal
+tied_by terms left right other e f =
+    sym ((key_cmp_total terms).congr (left_key left) (right_key right) (right_key other)
+    (eq_is (order_of terms left right) e))
+    ∙ eq_is (order_of terms left other) f
+
+-- no left document behind one that matches a right one comes before that
+pub none_less : (terms : List JoinTerm) (left : Doc) (lefts : List Doc) (right : Doc)
+    → meets terms left right ≡ true → IsAscending (less (left_order terms)) (left ∷ lefts)
+    → AllByRecursion (λ l. is_lt (order_of terms l right) ≡ false) lefts
+unfolding less
+none_less terms left lefts right e a =
+    each_weaker (λ m. less (left_order terms) m left ≡ false)
+    (λ m. is_lt (order_of terms m right) ≡ false) lefts
+    (λ m f. ap is_lt (sym (along terms (left_key m) (left_key left) (right_key right)
+    (eq_is (order_of terms left right) e)))
+    ∙ sym (ap is_lt (left_cmp terms m left)) ∙ f)
+    a.0

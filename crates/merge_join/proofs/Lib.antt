@@ -1,2 +1,4 @@
 pub mod ExistLemmas
 pub mod KeyLemmas
+pub mod PairLemmas
+pub mod RunLemmas

@@ -1,11 +1,9 @@
 -- The members of the kernels' law at intersect and complement (own).
-use Rattle.std.specs.Prelude.{◌≡◌, ℕ, List, [], ◌∷◌, Bool, true, false, None, length, if◌then◌else◌}
+use Rattle.std.specs.Prelude.{◌≡◌, ℕ, List, [], ◌∷◌, Bool, true, false, None, length}
 use Rattle.tuple_values.specs.Document.{Doc}
 use Rattle.sort_spec.specs.Sorting.{IsAscending}
 use Rattle.sort_spec.specs.Terms.{less}
 use Rattle.kernel_laws.specs.Rests.{Rests, rest_at}
-use Rattle.kernel_laws.specs.declared.ask.Ask.{Ask}
-use Rattle.kernel_laws.specs.declared.ask.Ask.TheVariants.{Need, End}
 use Rattle.merge_join.specs.JoinLists.{existing}
 use Rattle.merge_join.specs.Keys.{left_order, right_order, meets}
 use Rattle.merge_join.specs.Sides.{flow, IsOver}
@@ -44,7 +42,3 @@ over k = (k.left.held ≡ None) × (k.left.ended ≡ true)
 -- it takes no memory once it is made
 abbrev pub failed : ExistKernel → Bool
 failed k = false
-
--- what is answered where no left tuple is held
-abbrev pub next_left : Bool → Ask
-next_left ended = if ended then End else Need 0

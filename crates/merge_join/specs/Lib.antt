@@ -1,4 +1,6 @@
 pub mod ExistState
 pub mod JoinLists
+pub mod JoinState
 pub mod Keys
+pub mod Runs
 pub mod Sides

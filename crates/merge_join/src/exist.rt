@@ -10,7 +10,7 @@ ghost use Rattle.merge_join.specs.Keys.{terms_of, left_order, right_order, meets
 ghost use Rattle.merge_join.specs.Sides.{flow, IsOver};
 ghost use Rattle.merge_join.specs.ExistState as exist;
 
-use crate::side::Side;
+use crate::side::{Side, next_left};
 use crate::term::{JoinTerms, compare_by, terms_of};
 use kernel_laws::{Ask, Kernel};
 use sort_spec::{OnSpec, SortSpec};
@@ -101,13 +101,6 @@ impl Kernel for ExistKernel {
         }
         Ok(())
     }
-}
-
-// What is answered where no left tuple is held.
-fn next_left(ended: bool) -> Ask
-    ensures { result ≡ exist.next_left ended }
-{
-    if ended { Ask::End } else { Ask::Need(0) }
 }
 
 // Whether a left tuple has an equal among the right ones; none where the next of them has to come

@@ -2,9 +2,11 @@
 #![tactic(auto)]
 
 mod exist;
+mod join;
 mod side;
 mod term;
 #[cfg(test)]
 mod tests;
 
 pub use exist::ExistKernel;
+pub use join::JoinKernel;

@@ -1,6 +1,8 @@
 // One of the two inputs of a join.
 ghost use Rattle.std.specs.Prelude.{◌≡◌, true, false, IfSome, IfNone};
+ghost use Rattle.merge_join.specs.Sides.{next_left};
 
+use kernel_laws::Ask;
 use tuple_values::Tuple;
 
 /// What is known of an input: its next tuple, where that came, and whether the input has ended.
@@ -31,4 +33,11 @@ impl Side {
             None => self.ended = true,
         }
     }
+}
+
+/// What is answered where no left tuple is held.
+pub(crate) fn next_left(ended: bool) -> Ask
+    ensures { result ≡ next_left ended }
+{
+    if ended { Ask::End } else { Ask::Need(0) }
 }

@@ -1,6 +1,6 @@
 // What no clause can say: that the definitions mean what the rules say, and that each call that
 // takes memory succeeds.
-use crate::ExistKernel;
+use crate::{ExistKernel, JoinKernel};
 use kernel_laws::{Ask, Kernel};
 use sort_spec::{OnPair, OnSpec, SortSpec, SortTerm};
 use std::alloc::Global;
@@ -37,13 +37,10 @@ fn add_mark(marks: &mut String, tuple: &Tuple) -> Result<(), Fail> {
 }
 
 // The marks of what a kernel gives.
-fn given<K: Kernel>(
-    alloc: Global,
-    kernel: K,
-    lefts: VecDeque<Tuple>,
-    rights: VecDeque<Tuple>,
-) -> Result<String, Fail> {
-    let (mut kernel, mut lefts, mut rights) = (kernel, lefts, rights);
+fn given<K: Kernel>(alloc: Global, kernel: K) -> Result<String, Fail> {
+    let mut kernel = kernel;
+    let mut lefts = input(alloc, "a", &LEFTS)?;
+    let mut rights = input(alloc, "b", &RIGHTS)?;
     let mut marks = String::new(alloc);
     for _ in 0..100 {
         match kernel.ask()? {
@@ -74,19 +71,23 @@ fn order_of(alloc: Global) -> Result<SortSpec, Fail> {
     Ok(order)
 }
 
-const LEFTS: [(i64, &str); 5] = [(-1, "a"), (1, "b"), (1, "c"), (3, "d"), (4, "e")];
+const LEFTS: [(i64, &str); 5] = [(-1, "a"), (1, "b"), (3, "c"), (3, "d"), (4, "e")];
 
 const RIGHTS: [(i64, &str); 5] = [(-1, "p"), (2, "q"), (3, "r"), (3, "s"), (5, "t")];
 
+// By a flag, what is given of the left tuples that have an equal or have none, and of an outer join
+// or an inner one.
+const GIVEN: [(bool, &str, &str); 2] = [(true, "acd", "pbrsrse"), (false, "be", "prsrs")];
+
 #[test]
-fn a_left_tuple_is_told_by_whether_it_has_an_equal(rt: HostRuntime) -> Result<(), Fail> {
+fn left_tuples_meet_the_right_ones_of_their_key(rt: HostRuntime) -> Result<(), Fail> {
     let alloc = rt.alloc();
-    for (keep, want) in [(true, "ad"), (false, "bce")] {
-        let kernel = ExistKernel::make(alloc, keep, &on_of(alloc)?, &order_of(alloc)?)?;
-        let lefts = input(alloc, "a", &LEFTS)?;
-        let rights = input(alloc, "b", &RIGHTS)?;
-        let marks = given(alloc, kernel, lefts, rights)?;
-        assert_eq!(rt; marks.as_str(), want);
+    let (on, order) = (on_of(alloc)?, order_of(alloc)?);
+    for (flag, exists, joined) in GIVEN {
+        let kernel = ExistKernel::make(alloc, flag, &on, &order)?;
+        assert_eq!(rt; given(alloc, kernel)?.as_str(), exists);
+        let kernel = JoinKernel::make(alloc, flag, &on, &order)?;
+        assert_eq!(rt; given(alloc, kernel)?.as_str(), joined);
     }
     Ok(())
 }

@@ -1,0 +1,111 @@
+-- What is true of all pairs of two lists.
+use Rattle.std.proofs.Common.{◌≡◌, ◌<◌, ℕ, zero, suc, List, [], ◌∷◌, ◌++◌, map, filter, drop}
+use Rattle.std.proofs.Common.{get_or, length, Bool, true, false, refl, ◌∙◌, ap, sym, arith}
+use Rattle.std.specs.List.{AllByRecursion}
+use Rattle.std.proofs.lemmas.List.{append-nil}
+use Rattle.std.proofs.lemmas.List.Elements.{filter-append}
+use Rattle.sort_spec.proofs.StableLemmas.{filter_none}
+use Rattle.merge_join.specs.JoinLists.{or_these, pairs}
+
+-- where each element passes all are kept
+filter_all : {X : Type 0} (test : X → Bool) (xs : List X)
+    → AllByRecursion (λ x. test x ≡ true) xs → filter test xs ≡ xs
+filter_all test [] a = refl
+filter_all test (x ∷ xs) a = let e = a.0 in rw e (ap (λ w. x ∷ w) (filter_all test xs a.1))
+
+-- an element that fails is no matter
+filter_past : {X : Type 0} (test : X → Bool) (run : List X) (x : X) (xs : List X)
+    → test x ≡ false → filter test (run ++ x ∷ xs) ≡ filter test (run ++ xs)
+filter_past test run x xs e =
+    filter-append test run (x ∷ xs)
+    ∙ (let past : filter test (x ∷ xs) ≡ filter test xs = rw e in
+    ap (λ w. filter test run ++ w) past)
+    ∙ sym (filter-append test run xs)
+
+-- those that pass stand in front of those that fail
+filter_front : {X : Type 0} (test : X → Bool) (run xs : List X)
+    → AllByRecursion (λ x. test x ≡ true) run → AllByRecursion (λ x. test x ≡ false) xs
+    → filter test (run ++ xs) ≡ run
+filter_front test run xs a b =
+    filter-append test run xs ∙ ap (λ w. filter test run ++ w) (filter_none test xs b)
+    ∙ append-nil (filter test run) ∙ filter_all test run a
+
+module _ {L R T : Type 0} (alone : L → List T) (match : L → R → Bool) (both : L → R → T) where
+  -- a right element that no left one matches is no matter, behind a run
+  pub pairs-skip : (lefts : List L) (run : List R) (right : R) (rights : List R)
+      → AllByRecursion (λ l. match l right ≡ false) lefts
+      → pairs alone match both lefts (run ++ right ∷ rights)
+      ≡ pairs alone match both lefts (run ++ rights)
+  pairs-skip [] run right rights a = refl
+  pairs-skip (l ∷ ls) run right rights a =
+      let all = pairs alone match both ls (run ++ right ∷ rights) in
+      ap (λ w. or_these (alone l) (map (both l) w) ++ all)
+      (filter_past (match l) run right rights a.0)
+      ∙ ap (λ w. or_these (alone l) (map (both l) (filter (match l) (run ++ rights))) ++ w)
+      (pairs-skip ls run right rights a.1)
+
+  -- nor is a run that none matches
+  pub pairs-let_go : (lefts : List L) (run rights : List R)
+      → AllByRecursion (λ r. AllByRecursion (λ l. match l r ≡ false) lefts) run
+      → pairs alone match both lefts (run ++ rights) ≡ pairs alone match both lefts rights
+  pairs-let_go lefts [] rights a = refl
+  pairs-let_go lefts (r ∷ run) rights a =
+      pairs-skip lefts [] r (run ++ rights) a.0 ∙ pairs-let_go lefts run rights a.1
+
+  -- a left element is paired with its run alone, where nothing behind that matches it
+  pub pairs-whole : (left : L) (lefts : List L) (run rights : List R)
+      → AllByRecursion (λ r. match left r ≡ true) run
+      → AllByRecursion (λ r. match left r ≡ false) rights
+      → pairs alone match both (left ∷ lefts) (run ++ rights)
+      ≡ or_these (alone left) (map (both left) run) ++ pairs alone match both lefts (run ++ rights)
+  pairs-whole left lefts run rights a b =
+      ap
+      (λ w. or_these (alone left) (map (both left) w)
+      ++ pairs alone match both lefts (run ++ rights))
+      (filter_front (match left) run rights a b)
+
+-- the elements from a place on, where there is one
+drop_one : {X Y : Type 0} (f : X → Y) (xs : List X) (more : List Y) (place : ℕ) (d : X)
+    → place < length xs
+    → drop place (map f xs ++ more) ≡ f (get_or xs place d) ∷ drop (suc place) (map f xs ++ more)
+drop_one f [] more place d h = absurd (omega arith)
+drop_one f (x ∷ xs) more zero d h = refl
+drop_one f (x ∷ xs) more (suc place) d h = drop_one f xs more place d (omega arith)
+
+-- none is left behind the last
+drop_last : {X Y : Type 0} (f : X → Y) (xs : List X) (more : List Y)
+    → drop (length xs) (map f xs ++ more) ≡ more
+drop_last f [] more = refl
+drop_last f (x ∷ xs) more = drop_last f xs more
+
+-- the same where others stand for no element
+pub these-one : {X Y : Type 0} (others : List Y) (f : X → Y) (xs : List X) (more : List Y)
+    (place : ℕ) (d : X) → place < length xs
+    → drop place (or_these others (map f xs) ++ more)
+    ≡ f (get_or xs place d) ∷ drop (suc place) (or_these others (map f xs) ++ more)
+these-one others f [] more place d h = absurd (omega arith)
+these-one others f (x ∷ xs) more place d h = drop_one f (x ∷ xs) more place d h
+
+pub these-last : {X Y : Type 0} (others : List Y) (f : X → Y) (xs : List X) (more : List Y)
+    (place : ℕ) → suc place ≡ length xs
+    → drop (suc place) (or_these others (map f xs) ++ more) ≡ more
+these-last others f [] more place h = absurd (omega arith)
+these-last others f (x ∷ xs) more place h =
+    ap (λ n. drop n (map f (x ∷ xs) ++ more)) h ∙ drop_last f (x ∷ xs) more
+
+-- tests that agree keep the same
+filter_same : {X : Type 0} (one other : X → Bool) → ((x : X) → one x ≡ other x) → (xs : List X)
+    → filter one xs ≡ filter other xs
+filter_same one other same [] = refl
+filter_same one other same (x ∷ xs) = let e = same x in rw e (rw (filter_same one other same xs))
+
+-- and pair the same
+pub pairs-same : {L R T : Type 0} (alone : L → List T) (one other : L → R → Bool)
+    (both : L → R → T) → ((l : L) (r : R) → one l r ≡ other l r) → (lefts : List L)
+    (rights : List R) → pairs alone one both lefts rights ≡ pairs alone other both lefts rights
+pairs-same alone one other both same [] rights = refl
+pairs-same alone one other both same (l ∷ ls) rights =
+    ap (λ w. or_these (alone l) (map (both l) w) ++ pairs alone one both ls rights)
+    (filter_same (one l) (other l) (same l) rights)
+    ∙ ap (λ w. or_these (alone l) (map (both l) (filter (other l) rights)) ++ w)
+    (pairs-same alone one other both same ls rights)
