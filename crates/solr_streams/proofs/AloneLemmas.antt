@@ -16,8 +16,9 @@ use Rattle.exchange_rules.specs.Rows.{Layout, part_of, cut_shards, cut_course}
 use Rattle.exchange_rules.proofs.AloneLemmas.{answers_alone}
 use Rattle.expr_types.specs.ExprTree.{ExprTree}
 use Rattle.stream_site.specs.Plains.{Plain, empty_site, layout_of, writer_of}
-use Rattle.expr_check.specs.Reads.{collections_of}
-use Rattle.stream_handler.specs.Expressions.{expression_of, list_over}
+use Rattle.expr_check.specs.Walk.{collections_of}
+use Rattle.expr_text.specs.Reading.{expression_of}
+use Rattle.stream_handler.specs.Expressions.{list_over}
 use Rattle.stream_handler.specs.Requests.{plain_course}
 use Rattle.stream_handler.specs.declared.outcome.Outcome.{Outcome}
 use Rattle.stream_handler.specs.declared.outcome.Outcome.TheVariants.{ResultSet}

@@ -37,17 +37,6 @@ line_of OutOfMemory = codes "out of memory\n"
 line_of InputCut = codes "input cut\n"
 line_of (MessageRefused status) = refused_line status
 
--- the same, but for that of a message that was refused
-abbrev pub fixed_line : Ending → ByteList
-fixed_line Done = []
-fixed_line InputFailed = codes "fault: input\n"
-fixed_line OutputFailed = codes "fault: output\n"
-fixed_line WordsRefused = codes "words refused\n"
-fixed_line Faulty = []
-fixed_line OutOfMemory = codes "out of memory\n"
-fixed_line InputCut = codes "input cut\n"
-fixed_line (MessageRefused status) = []
-
 -- what a command has written at an ending, for an input that was told to have these bytes and has
 -- these left
 abbrev pub WritesFor : Ending → Option Command → List ℕ → Option (List ℕ) → Option (List ℕ)

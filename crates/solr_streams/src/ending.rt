@@ -1,6 +1,6 @@
 // How a run ended, with its status and its line.
 ghost use Rattle.std.specs.Prelude.{◌≡◌};
-ghost use Rattle.solr_streams.specs.Endings.{SaysLine, fixed_line, line_of, refused_line, status_of};
+ghost use Rattle.solr_streams.specs.Endings.{SaysLine, line_of, refused_line, status_of};
 
 use io_edge::{Put, Sink};
 use itoa::Buffer;
@@ -41,28 +41,19 @@ impl Ending {
         }
     }
 
-    // The line for errors where it is always the same, and empty for a message that was refused.
-    fn fixed_line(self) -> &'static str
-        ensures { result.now ≡ fixed_line self }
-    {
-        match self {
-            Ending::Done | Ending::Faulty | Ending::MessageRefused { .. } => "",
-            Ending::InputFailed => "fault: input\n",
-            Ending::OutputFailed => "fault: output\n",
-            Ending::WordsRefused => "words refused\n",
-            Ending::OutOfMemory => "out of memory\n",
-            Ending::InputCut => "input cut\n",
-        }
-    }
-
     /// Writes the line of the ending, where it has one. What fails is left.
     pub fn say<E: Sink>(self, errors: &mut E)
         ensures { SaysLine (E.written errors.old) (E.written errors.new)
             (E.faults errors.old) (E.faults errors.new) (line_of self) }
     {
         match self {
+            Ending::Done | Ending::Faulty => {}
+            Ending::InputFailed => say(errors, b"fault: input\n"),
+            Ending::OutputFailed => say(errors, b"fault: output\n"),
+            Ending::WordsRefused => say(errors, b"words refused\n"),
+            Ending::OutOfMemory => say(errors, b"out of memory\n"),
+            Ending::InputCut => say(errors, b"input cut\n"),
             Ending::MessageRefused { status } => say_refused(errors, status),
-            _ => say(errors, self.fixed_line().as_bytes()),
         }
     }
 }

@@ -22,10 +22,10 @@ use Rattle.form_request.specs.declared.request.Handler.TheVariants.{Stream, Upda
 use Rattle.form_request.specs.declared.request.Request.{Request}
 use Rattle.json_text.specs.Updates.{update_in}
 use Rattle.expr_types.specs.ExprTree.{ExprTree}
-use Rattle.expr_check.specs.Reads.{collections_of}
+use Rattle.expr_check.specs.Walk.{collections_of}
 use Rattle.topic_book.specs.Fitness.{shards_of}
 use Rattle.stream_handler.specs.Exchanges.{Answer, AreSound, IsAnswered, IsSound, exchanges_of, owns_of}
-use Rattle.stream_handler.specs.Expressions.{expression_of}
+use Rattle.expr_text.specs.Reading.{expression_of}
 use Rattle.stream_handler.specs.Outcomes.{reply_of}
 use Rattle.stream_handler.specs.Refusals.{refusal}
 use Rattle.stream_handler.specs.Requests.{RequestsLookFirst, handled, is_true, plain_course, request_course, stream_course, update_course}

@@ -1,5 +1,4 @@
 pub mod Expressions
-pub mod Plains
 pub mod Responses
 pub mod Outcomes
 pub mod Refusals

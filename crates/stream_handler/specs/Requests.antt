@@ -20,8 +20,9 @@ use Rattle.json_text.specs.declared.fault.JsonFault.{JsonFault}
 use Rattle.json_text.specs.declared.fault.JsonFault.TheVariants as bad
 use Rattle.json_text.specs.declared.update.Update as body
 use Rattle.expr_types.specs.ExprTree.{ExprTree}
-use Rattle.expr_check.specs.Reads.{collections_of}
-use Rattle.stream_handler.specs.Expressions.{expression_of, list_over}
+use Rattle.expr_check.specs.Walk.{collections_of}
+use Rattle.expr_text.specs.Reading.{expression_of}
+use Rattle.stream_handler.specs.Expressions.{list_over}
 use Rattle.topic_book.specs.Fitness.{shards_of}
 use Rattle.stream_handler.specs.Outcomes.{exception}
 use Rattle.stream_handler.specs.Refusals.{refusal}

@@ -7,7 +7,6 @@ mod exchange;
 mod expression;
 mod laws;
 mod outcome;
-mod plain;
 mod refusal;
 mod request;
 mod response;

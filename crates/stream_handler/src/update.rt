@@ -84,7 +84,7 @@ fn index<T: Turns>(
     ensures layout { T.layout site.new ≡ T.layout site.old }
 {
     let commit = is_asked(update.commit, commit);
-    match index_over(site, alloc, collection, update.writes, commit) {
+    match index_over(alloc, site, collection, update.writes, commit) {
         Ok(_) => Ok(Outcome::Indexed),
         Err(fault) => refusal(alloc, fault),
     }

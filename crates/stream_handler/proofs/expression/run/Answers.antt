@@ -5,7 +5,7 @@ use Rattle.exchange_rules.specs.Calls.{Completed}
 use Rattle.exchange_rules.specs.Courses.{ends}
 use Rattle.exchange_rules.specs.Rows.{cut_course}
 use Rattle.expr_check.specs.Views.{tree_of}
-use Rattle.expr_check.specs.Reads.{collections_of}
+use Rattle.expr_check.specs.Walk.{collections_of}
 use Rattle.stream_handler.specs.Expressions.{list_over}
 use Rattle.stream_handler.specs.Requests.{plain_course}
 use Rattle.stream_handler.specs.declared.outcome.Outcome.TheVariants.{ResultSet}

@@ -1,8 +1,7 @@
 use Rattle.std.proofs.Common.{◌≡◌, sym, subst}
 use Rattle.std.specs.Prelude.{Err}
 use Rattle.exchange_rules.specs.Following.{Answers}
-use Rattle.stream_handler.specs.Expressions.{expression_of}
-use Rattle.stream_handler.specs.Plains.{IsTold}
+use Rattle.expr_text.specs.Reading.{expression_of, IsTold}
 use Rattle.stream_handler.specs.Requests.{plain_course}
 use Rattle.stream_handler.proofs.CarriedLemmas.{nothing_done, told_done}
 use Rattle.stream_handler.proofs.expression.run_expression.Goals as goal

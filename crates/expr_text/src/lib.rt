@@ -1,0 +1,12 @@
+//! The bytes of an expression, as a checked expression or what a reply says of their first fault.
+#![tactic(auto)]
+
+mod fault;
+mod laws;
+mod reading;
+#[cfg(test)]
+mod tests;
+
+pub use fault::PlainFault;
+pub use laws::texts_agree;
+pub use reading::read_plain;
