@@ -1,5 +1,6 @@
 // Keys, hashes and the routing of ids.
-ghost use Rattle.std.specs.Prelude.{◌≡◌, ◌++◌, ◌<◌, IfOk, OnOk, option_map};
+ghost use Rattle.std.specs.Prelude.{◌≡◌, ◌++◌, ◌<◌, List, IfOk, OnOk, map, option_map};
+ghost use Rattle.tuple_values.specs.Document.{ByteList, Doc, value_at};
 ghost use Rattle.tuple_values.specs.Keys.{key_part, key_text, hash_of, shard_of};
 ghost use Rattle.tuple_values.specs.Views.{datum_of};
 
@@ -37,6 +38,14 @@ fn push_part(out: &mut Vec<u8>, value: Option<&Value>) -> Result<(), Memory>
     }
     Ok(())
 }
+
+/// Fields with equal values, where two absent ones are equal, give equal keys. Nothing follows from
+/// equal keys: all groups have one, and the length of a text stands in it modulo 2^32.
+pub fn equal_values_give_equal_keys()
+    ensures { (left right : Doc) (lefts rights : List ByteList)
+        → map (λ name. value_at name left) lefts ≡ map (λ name. value_at name right) rights
+        → key_text left lefts ≡ key_text right rights }
+{}
 
 /// The 32-bit FNV-1a hash of some bytes (Fowler, Noll and Vo).
 pub fn fnv1a(bytes: &[u8]) -> u32

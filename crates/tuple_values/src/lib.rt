@@ -18,7 +18,7 @@ mod whole_numbers;
 mod write;
 
 pub use comparing::{compare, order_is_total};
-pub use keys::{fnv1a, key_text, shard_of};
+pub use keys::{equal_values_give_equal_keys, fnv1a, key_text, shard_of};
 pub use kinds::coerce;
 pub use memory::Memory;
 pub use names::{FieldList, NameShards, Names, Words};
