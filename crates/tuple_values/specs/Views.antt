@@ -1,5 +1,5 @@
 -- The documents that the program's values stand for (own).
-use Rattle.std.specs.Prelude.{List, map, Option, option_map}
+use Rattle.std.specs.Prelude.{List, map}
 use Rattle.tuple_values.specs.Document.{ByteList, Datum, long, text, group, Doc, rows_of}
 use Rattle.tuple_values.specs.declared.value.Value.{Value}
 use Rattle.tuple_values.specs.declared.value.Value.TheVariants.{Long, Text, Group}

@@ -1,4 +1,4 @@
-use Rattle.std.proofs.Common.{◌≡◌, ◌<◌, length, arith, ap}
+use Rattle.std.proofs.Common.{◌<◌, length, arith, ap}
 use Rattle.std.proofs.lemmas.List.{length-map}
 use Rattle.tuple_values.specs.Views.{pair_of}
 use Rattle.tuple_values.proofs.SizeLemmas.{field_smaller}

@@ -1,4 +1,4 @@
-use Rattle.std.proofs.Common.{◌≡◌, ◌<◌, length, arith, ap}
+use Rattle.std.proofs.Common.{◌<◌, length, arith, ap}
 use Rattle.tuple_values.proofs.SizeLemmas.{row_smaller}
 use Rattle.tuple_values.proofs.value.Tuples.get.Goals as goal
 
