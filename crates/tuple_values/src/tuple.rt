@@ -97,7 +97,16 @@ impl Tuple {
     pub fn over(&self, alloc: Global, right: &Tuple) -> Result<Tuple, Memory>
         ensures { IfOk result (λ t. t ≡ over self.now right.now) }
     {
-        let mut all = self.copy(alloc)?;
+        let all = self.copy(alloc)?;
+        all.laid_over(alloc, right)
+    }
+
+    /// The tuple itself, which is moved in, with copies of the right one's fields, whose values stay
+    /// where names meet.
+    pub fn laid_over(self, alloc: Global, right: &Tuple) -> Result<Tuple, Memory>
+        ensures { IfOk result (λ t. t ≡ over self right.now) }
+    {
+        let mut all = self;
         for field in &right.fields {
             all.put(field.name.copy(alloc)?, field.value.copy(alloc)?)?;
         }
