@@ -1,11 +1,14 @@
 -- What is true of all pairs of two lists.
 use Rattle.std.proofs.Common.{◌≡◌, ◌<◌, ℕ, zero, suc, List, [], ◌∷◌, ◌++◌, map, filter, drop}
-use Rattle.std.proofs.Common.{get_or, length, Bool, true, false, refl, ◌∙◌, ap, sym, arith}
+use Rattle.std.proofs.Common.{get_or, length, Bool, true, false, if◌then◌else◌, refl, ◌∙◌, ap, sym}
+use Rattle.std.proofs.Common.{arith}
 use Rattle.std.specs.List.{AllByRecursion}
 use Rattle.std.proofs.lemmas.List.{append-nil}
 use Rattle.std.proofs.lemmas.List.Elements.{filter-append}
+use Rattle.tuple_values.specs.Document.{Doc, over}
+use Rattle.sort_spec.specs.declared.pair.OnPair.{OnPair}
 use Rattle.sort_spec.proofs.StableLemmas.{filter_none}
-use Rattle.merge_join.specs.JoinLists.{or_these, pairs}
+use Rattle.expr_types.specs.Joins.{or_these, pairs, matches, alone_of, join_list, outer_join_list}
 
 -- where each element passes all are kept
 filter_all : {X : Type 0} (test : X → Bool) (xs : List X)
@@ -14,7 +17,7 @@ filter_all test [] a = refl
 filter_all test (x ∷ xs) a = let e = a.0 in rw e (ap (λ w. x ∷ w) (filter_all test xs a.1))
 
 -- an element that fails is no matter
-filter_past : {X : Type 0} (test : X → Bool) (run : List X) (x : X) (xs : List X)
+pub filter_past : {X : Type 0} (test : X → Bool) (run : List X) (x : X) (xs : List X)
     → test x ≡ false → filter test (run ++ x ∷ xs) ≡ filter test (run ++ xs)
 filter_past test run x xs e =
     filter-append test run (x ∷ xs)
@@ -109,3 +112,10 @@ pairs-same alone one other both same (l ∷ ls) rights =
     (filter_same (one l) (other l) (same l) rights)
     ∙ ap (λ w. or_these (alone l) (map (both l) (filter (other l) rights)) ++ w)
     (pairs-same alone one other both same ls rights)
+
+-- an inner and an outer join differ by what a left document without a match gives
+pub pairs-kind : (outer : Bool) (on : List OnPair) (lefts rights : List Doc)
+    → pairs (alone_of outer) (matches on) over lefts rights
+    ≡ (if outer then outer_join_list on lefts rights else join_list on lefts rights)
+pairs-kind true on lefts rights = refl
+pairs-kind false on lefts rights = refl

@@ -1,6 +1,8 @@
--- What joins give of two lists of documents (Solr Reference Guide, "Stream Decorator Reference",
--- innerJoin, leftOuterJoin, intersect and complement; which values are equal is own).
+-- What joins give of two lists of documents, over all pairs of the two (Solr Reference Guide,
+-- "Stream Decorator Reference", innerJoin, leftOuterJoin, hashJoin, outerHashJoin, intersect and
+-- complement; which values are equal is own).
 use Rattle.std.specs.Prelude.{List, [], ◌∷◌, ◌++◌, Bool, true, false, not, map, filter}
+use Rattle.std.specs.Prelude.{if◌then◌else◌}
 use Rattle.std.specs.List.{list_all, list_any}
 use Rattle.std.specs.Option.{option_cmp}
 use Rattle.std.specs.Ordering.{is_eq}
@@ -38,6 +40,10 @@ join_list on lefts rights = pairs (λ left. []) (matches on) over lefts rights
 -- an outer join: a left document without a match stays as it is
 abbrev pub outer_join_list : List OnPair → List Doc → List Doc → List Doc
 outer_join_list on lefts rights = pairs (λ left. left ∷ []) (matches on) over lefts rights
+
+-- what a left document without a match gives: itself in an outer join, else nothing
+abbrev pub alone_of : Bool → Doc → List Doc
+alone_of outer left = if outer then left ∷ [] else []
 
 -- whether an element is kept, by whether it has a match
 abbrev pub is_kept : Bool → Bool → Bool

@@ -7,6 +7,7 @@ pub mod Orders
 pub mod Conditions
 pub mod Rows
 pub mod Groups
+pub mod Joins
 pub mod Rules
 pub mod Parts
 pub mod Lists

@@ -12,7 +12,7 @@ use Rattle.sort_spec.specs.declared.pair.OnPair.{OnPair}
 use Rattle.sort_spec.specs.declared.term.SortTerm.{SortTerm}
 use Rattle.kernel_laws.specs.Asks.{emitted}
 use Rattle.kernel_laws.specs.declared.ask.Ask.{Ask}
-use Rattle.merge_join.specs.JoinLists.{is_kept, existing, matches, exist_list}
+use Rattle.expr_types.specs.Joins.{is_kept, existing, matches, exist_list}
 use Rattle.merge_join.specs.Keys.{order_of, meets, left_order, right_order, terms_of}
 use Rattle.merge_join.specs.Sides.{flow, next_left}
 use Rattle.merge_join.specs.declared.term.JoinTerm.{JoinTerm}

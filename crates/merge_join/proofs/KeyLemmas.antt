@@ -16,7 +16,7 @@ use Rattle.sort_spec.specs.declared.pair.OnPair.{OnPair}
 use Rattle.sort_spec.specs.declared.term.SortTerm.{SortTerm}
 use Rattle.sort_spec.proofs.SortLemmas.{each_weaker}
 use Rattle.sort_spec.proofs.StableLemmas.{below}
-use Rattle.merge_join.specs.JoinLists.{is_met, matches}
+use Rattle.expr_types.specs.Joins.{is_met, matches}
 use Rattle.merge_join.specs.Keys.{Key, left_key, right_key, key_cmp, directed, order_of, meets}
 use Rattle.merge_join.specs.Keys.{left_order, right_order, terms_of}
 use Rattle.merge_join.specs.declared.term.JoinTerm.{JoinTerm}

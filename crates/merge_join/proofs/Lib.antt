@@ -1,4 +1,3 @@
 pub mod ExistLemmas
 pub mod KeyLemmas
-pub mod PairLemmas
 pub mod RunLemmas

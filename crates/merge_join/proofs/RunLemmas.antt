@@ -15,17 +15,17 @@ use Rattle.sort_spec.proofs.SortLemmas.{each_weaker}
 use Rattle.kernel_laws.specs.Asks.{emitted}
 use Rattle.kernel_laws.specs.declared.ask.Ask.{Ask}
 use Rattle.kernel_laws.specs.declared.ask.Ask.TheVariants.{Emit}
-use Rattle.merge_join.specs.JoinLists.{or_these, pairs, matches, join_list, outer_join_list}
+use Rattle.expr_types.specs.Joins.{alone_of, or_these, pairs, matches, join_list, outer_join_list}
 use Rattle.merge_join.specs.Keys.{left_order, right_order, right_key, key_cmp, order_of, meets}
 use Rattle.merge_join.specs.Keys.{terms_of}
-use Rattle.merge_join.specs.Runs.{alone_of, pairs_from, AreEqual, AreOther, IsKept, is_behind}
+use Rattle.merge_join.specs.Runs.{pairs_from, AreEqual, AreOther, IsKept, is_behind}
 use Rattle.merge_join.specs.Runs.{IsWhole, IsMidway}
 use Rattle.merge_join.specs.Sides.{flow, next_left}
 use Rattle.merge_join.specs.declared.term.JoinTerm.{JoinTerm}
 use Rattle.merge_join.proofs.KeyLemmas.{none_before, none_behind, meets-matches, order_of-tied}
 use Rattle.merge_join.proofs.KeyLemmas.{tied_by, none_less}
-use Rattle.merge_join.proofs.PairLemmas.{pairs-skip, pairs-let_go, pairs-whole, these-one}
-use Rattle.merge_join.proofs.PairLemmas.{these-last, pairs-same}
+use Rattle.expr_types.proofs.JoinLemmas.{pairs-skip, pairs-let_go, pairs-whole, these-one}
+use Rattle.expr_types.proofs.JoinLemmas.{these-last, pairs-same, pairs-kind}
 
 -- an order is greater where the test says so
 gt_is : (order : Ordering) → is_gt order ≡ true → order ≡ Greater
@@ -247,9 +247,4 @@ made_join outer on order terms one other run lefts rights e f g h =
     ∙ ap (λ ts. pairs_from outer ts 0 lefts rights) e
     ∙ pairs-same (alone_of outer) (meets (terms_of on order)) (matches on) over
     (meets-matches on order) lefts rights
-    ∙ by_kind outer
-  where
-    by_kind : (outer : Bool) → pairs (alone_of outer) (matches on) over lefts rights
-        ≡ (if outer then outer_join_list on lefts rights else join_list on lefts rights)
-    by_kind true = refl
-    by_kind false = refl
+    ∙ pairs-kind outer on lefts rights

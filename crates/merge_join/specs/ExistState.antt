@@ -4,7 +4,7 @@ use Rattle.tuple_values.specs.Document.{Doc}
 use Rattle.sort_spec.specs.Sorting.{IsAscending}
 use Rattle.sort_spec.specs.Terms.{less}
 use Rattle.kernel_laws.specs.Rests.{Rests, rest_at}
-use Rattle.merge_join.specs.JoinLists.{existing}
+use Rattle.expr_types.specs.Joins.{existing}
 use Rattle.merge_join.specs.Keys.{left_order, right_order, meets}
 use Rattle.merge_join.specs.Sides.{flow, IsOver}
 use Rattle.merge_join.specs.declared.exist.ExistKernel.{ExistKernel}

@@ -1,5 +1,4 @@
 pub mod ExistState
-pub mod JoinLists
 pub mod JoinState
 pub mod Keys
 pub mod Runs

@@ -1,20 +1,16 @@
 -- What a join holds of its inputs: a left document and the right ones that equal it (own).
 use Rattle.std.specs.Prelude.{◌≡◌, ◌<◌, ℕ, List, [], ◌∷◌, drop, length, Bool, true, false}
-use Rattle.std.specs.Prelude.{if◌then◌else◌, Option, Some, None}
+use Rattle.std.specs.Prelude.{Option, Some, None}
 use Rattle.std.specs.List.{AllByRecursion}
 use Rattle.std.specs.Ordering.{is_lt, is_gt}
 use Rattle.std.specs.declared.cmp.Ordering.TheVariants.{Equal}
 use Rattle.tuple_values.specs.Document.{Doc, over}
 use Rattle.sort_spec.specs.Sorting.{IsAscending}
 use Rattle.sort_spec.specs.Terms.{less}
-use Rattle.merge_join.specs.JoinLists.{pairs}
+use Rattle.expr_types.specs.Joins.{alone_of, pairs}
 use Rattle.merge_join.specs.Keys.{left_order, right_order, right_key, key_cmp, order_of, meets}
 use Rattle.merge_join.specs.Sides.{flow}
 use Rattle.merge_join.specs.declared.term.JoinTerm.{JoinTerm}
-
--- what a left document without an equal gives: itself in an outer join, else nothing
-abbrev pub alone_of : Bool → Doc → List Doc
-alone_of outer left = if outer then left ∷ [] else []
 
 -- what documents that are to come give, without so many that were given
 abbrev pub pairs_from : Bool → List JoinTerm → ℕ → List Doc → List Doc → List Doc

@@ -5,7 +5,7 @@ ghost use Rattle.std.specs.List.{list_any};
 ghost use Rattle.tuple_values.specs.Document.{Doc};
 ghost use Rattle.sort_spec.specs.Sorting.{IsAscending};
 ghost use Rattle.sort_spec.specs.Terms.{less};
-ghost use Rattle.merge_join.specs.JoinLists.{existing, exist_list};
+ghost use Rattle.expr_types.specs.Joins.{existing, exist_list};
 ghost use Rattle.merge_join.specs.Keys.{terms_of, left_order, right_order, meets};
 ghost use Rattle.merge_join.specs.Sides.{flow, IsOver};
 ghost use Rattle.merge_join.specs.ExistState as exist;

@@ -1,11 +1,11 @@
 // The pairs of left and right tuples that are equal by their fields.
 ghost use Rattle.std.specs.Prelude.{◌≡◌, ◌++◌, List, [], ◌∷◌, Bool, Some, None, true, false};
 ghost use Rattle.std.specs.Prelude.{ℕ, length, IfOk, IfErr, IfSome, if◌then◌else◌};
-ghost use Rattle.tuple_values.specs.Document.{Doc, over};
+ghost use Rattle.tuple_values.specs.Document.{Doc};
 ghost use Rattle.sort_spec.specs.Sorting.{IsAscending};
 ghost use Rattle.sort_spec.specs.Terms.{less};
 ghost use Rattle.kernel_laws.specs.Asks.{emitted, wanted, IfEnd};
-ghost use Rattle.merge_join.specs.JoinLists.{join_list, outer_join_list};
+ghost use Rattle.expr_types.specs.Joins.{join_list, outer_join_list};
 ghost use Rattle.merge_join.specs.Keys.{terms_of, left_order, right_order};
 ghost use Rattle.merge_join.specs.Runs.{pairs_from, AreEqual, IsKept, is_behind, IsWhole, IsMidway};
 ghost use Rattle.merge_join.specs.Sides.{flow, IsOver, next_left};
@@ -236,23 +236,9 @@ fn give(
         left.held = Some(tuple);
         return Ok(Ask::Emit(pair));
     }
-    let last = laid_over(alloc, tuple, right)?;
+    let last = tuple.laid_over(alloc, right)?;
     *place = 0;
     Ok(Ask::Emit(last))
-}
-
-// The left tuple, which is moved in, with copies of the right one's fields, whose values stay where
-// names meet.
-fn laid_over(alloc: Global, left: Tuple, right: &Tuple) -> Result<Tuple, Memory>
-    ensures { IfOk result (λ pair. pair ≡ over left right.now) }
-{
-    let mut pair = left;
-    for k in 0..right.count() {
-        let name = right.name(k).copy(alloc)?;
-        let value = right.value(k).copy(alloc)?;
-        pair.put(name, value)?;
-    }
-    Ok(pair)
 }
 
 // What is answered for a left tuple without an equal.
