@@ -17,7 +17,7 @@ pub field_cmp_total : (field : ByteList) → IsTotalOrder (field_cmp field)
 field_cmp_total field = on_total (λ doc. value_at field doc) (options_total datum_cmp_total)
 
 -- an order from its end is one
-reversed_total : {K : Type 0} (cmp : K → K → Ordering) → IsTotalOrder cmp
+pub reversed_total : {K : Type 0} (cmp : K → K → Ordering) → IsTotalOrder cmp
     → IsTotalOrder (λ x y. ordering_reverse (cmp x y))
 reversed_total cmp o =
     let back : (x y : _) → cmp y x ≡ ordering_reverse (cmp x y) = λ x y. o.antisymm y x in

@@ -1,7 +1,9 @@
 pub mod Agreement
 pub mod Fault
 pub mod Grammar
+pub mod Keys
 pub mod Reading
+pub mod Rows
 pub mod Scan
 pub mod Sorting
 pub mod Terms

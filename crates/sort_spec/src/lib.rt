@@ -4,6 +4,7 @@
 mod comparing;
 mod fault;
 mod item;
+mod keyed;
 mod pair;
 mod reader;
 mod scan;
@@ -16,5 +17,5 @@ pub use comparing::orders_are_weak;
 pub use fault::SortFault;
 pub use pair::{OnPair, OnSpec};
 pub use reader::{read_names, read_on, read_sort, readings_agree};
-pub use sorting::sort_tuples;
+pub use sorting::{sort_lent, sort_tuples};
 pub use term::{SortSpec, SortTerm};

@@ -1,10 +1,11 @@
 // Tuples in the order of a sort.
-ghost use Rattle.std.specs.Prelude.{◌≡◌, IfOk};
+ghost use Rattle.std.specs.Prelude.{◌≡◌, IfOk, map};
 ghost use Rattle.sort_spec.specs.Sorting.{ins_sort};
 ghost use Rattle.sort_spec.specs.Terms.{less};
 
 use crate::SortSpec;
-use tuple_values::{Memory, Tuples};
+use crate::keyed::{compare_keys, with_keys, without_keys};
+use tuple_values::{Memory, Tuple, Tuples};
 
 /// Sorts tuples, and leaves those that tie in their order. The tuples are moved, never copied;
 /// after an `Err` they are dropped. Takes some n log n comparisons of n tuples.
@@ -14,4 +15,18 @@ pub fn sort_tuples(tuples: Tuples, by: &SortSpec) -> Result<Tuples, Memory>
     let mut items = tuples.into_vec();
     items.sort_by(|a, b| by.compare(a, b))?;
     Ok(Tuples::from_vec(items))
+}
+
+/// Sorts tuples that are lent, and leaves those that tie in their order. The values under the
+/// terms are looked up once in each of n tuples; then some n log n pairs of them are compared.
+pub fn sort_lent<'a>(tuples: Vec<&'a Tuple>, by: &SortSpec) -> Result<Vec<&'a Tuple>, Memory>
+    ensures { IfOk result (λ sorted. map (λ d. d.now) sorted.items
+        ≡ ins_sort (less by.now) (map (λ d. d.now) tuples.entry.items)) }
+{
+    let alloc = *tuples.allocator();
+    let terms = by.as_slice();
+    let mut rows = with_keys(alloc, terms, tuples.as_slice())?;
+    rows.sort_by(|a, b| compare_keys(terms, a.keys.as_slice(), b.keys.as_slice()))?;
+    let sorted = without_keys(alloc, rows.as_slice())?;
+    Ok(sorted)
 }

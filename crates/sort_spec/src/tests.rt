@@ -1,6 +1,6 @@
 // What no clause can say: that the definitions mean what the rules say, worked by hand, and that
 // each call that takes memory succeeds.
-use crate::{SortFault, SortSpec, SortTerm, read_names, read_on, read_sort, sort_tuples};
+use crate::{SortFault, SortSpec, SortTerm, read_names, read_on, read_sort, sort_lent, sort_tuples};
 use std::alloc::Global;
 use std::cmp::Ordering;
 use std::test::Fail;
@@ -219,19 +219,32 @@ fn mark_of(tuple: &Tuple) -> &str {
     }
 }
 
-#[test]
-fn ties_keep_their_order(rt: HostRuntime) -> Result<(), Fail> {
-    let alloc = rt.alloc();
-    let by = read_sort(alloc, "a desc").ok().ok_or("no sort")?;
+// Tuples of which the first and the third tie, and the second and the fourth.
+fn tied(alloc: Global) -> Result<Tuples, Fail> {
     let mut tuples = Tuples::empty(alloc);
     for (n, mark) in [(1, "x"), (2, "y"), (1, "z"), (2, "w"), (3, "v")] {
         tuples.push(tuple_of(alloc, Plain::Long(n), Plain::Text(mark))?)?;
     }
+    Ok(tuples)
+}
+
+#[test]
+fn ties_keep_their_order(rt: HostRuntime) -> Result<(), Fail> {
+    let alloc = rt.alloc();
+    let by = read_sort(alloc, "a desc").ok().ok_or("no sort")?;
+    let tuples = tied(alloc)?.into_vec();
+    let mut lent = Vec::new(alloc);
+    for tuple in tuples.as_slice() {
+        lent.push(tuple)?;
+    }
     let mut marks = String::new(alloc);
-    for tuple in sort_tuples(tuples, &by)?.into_vec() {
+    for tuple in sort_lent(lent, &by)? {
+        marks.push_str(mark_of(tuple))?;
+    }
+    for tuple in sort_tuples(tied(alloc)?, &by)?.into_vec() {
         marks.push_str(mark_of(&tuple))?;
     }
-    assert_eq!(rt; marks.as_str(), "vywxz");
+    assert_eq!(rt; marks.as_str(), "vywxzvywxz");
     Ok(())
 }
 

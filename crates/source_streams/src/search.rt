@@ -1,8 +1,6 @@
 // The source of a search.
 ghost use Rattle.std.specs.Prelude.{◌≡◌, ◌<◌, ◌==◌, ◌%◌, ◌++◌, IsOk, IsSome, IfOk, OnOk, Some, map, filter, option_map};
 ghost use Rattle.query_syntax.specs.Matching.{matches};
-ghost use Rattle.sort_spec.specs.Sorting.{ins_sort};
-ghost use Rattle.sort_spec.specs.Terms.{less};
 ghost use Rattle.expr_types.specs.Parts.{search_parts};
 ghost use Rattle.expr_types.specs.Sources.{first_rows, then_by_id, cut_to};
 ghost use Rattle.source_streams.specs.Cuts.{documents_of};
@@ -13,7 +11,7 @@ use crate::Part;
 use expr_types::Expr;
 use query_syntax::Query;
 use shard_versions::{Cut, CutPart, Snapshot};
-use sort_spec::{SortSpec, SortTerm};
+use sort_spec::{SortSpec, SortTerm, sort_lent};
 use std::alloc::Global;
 use std::collections::VecDeque;
 use std::marker::Model;
@@ -59,7 +57,7 @@ impl SearchCursor {
         };
         let found = matching(alloc, q, collection, cut.as_slice())?;
         let by = by_id(alloc, sort)?;
-        let found = sort_found(found, &by)?;
+        let found = sort_lent(found, &by)?;
         let first = first_of(found.as_slice(), *rows);
         let rest = cut_rest(alloc, first, fl, part, partition_keys.as_ref())?;
         Ok(SearchCursor { rest })
@@ -120,16 +118,6 @@ fn by_id(alloc: Global, sort: &SortSpec) -> Result<SortSpec, Memory>
         descending: false,
     })?;
     Ok(by)
-}
-
-// The documents in order.
-fn sort_found<'a>(found: Vec<&'a Tuple>, by: &SortSpec) -> Result<Vec<&'a Tuple>, Memory>
-    ensures { IfOk result (λ sorted. map (λ d. d.now) sorted.items
-        ≡ ins_sort (less by.now) (map (λ d. d.now) found.entry.items)) }
-{
-    let mut sorted = found;
-    sorted.sort_by(|a, b| by.compare(a, b))?;
-    Ok(sorted)
 }
 
 // The first so many, or all.
