@@ -106,7 +106,7 @@ pub value_put-other : (name other : ByteList) (v : Datum) (doc : Doc) → bytes_
 value_put-other name other v doc e = value_put_other name other v doc (other_cmp other name e)
 
 -- what a lookup sees past a first field of another name
-past_other : (name : ByteList) (f : ByteList × Datum) (doc : Doc) → bytes_eq f.0 name ≡ false
+pub past_other : (name : ByteList) (f : ByteList × Datum) (doc : Doc) → bytes_eq f.0 name ≡ false
     → value_at name (f ∷ doc) ≡ value_at name doc
 past_other name f doc e = rw e refl
 

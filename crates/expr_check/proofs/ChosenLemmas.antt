@@ -76,7 +76,7 @@ chosen-other name doc acc (Replace field old new) e = refl
 chosen-other name doc acc (Concat fields into delim) e = refl
 
 -- changes by items that don't touch the name
-changes-untouched : (name : ByteList) (doc : Doc) (items : List Item)
+pub changes-untouched : (name : ByteList) (doc : Doc) (items : List Item)
     → is_untouched name items ≡ true → value_at name (fold changed doc items) ≡ value_at name doc
 changes-untouched name doc [] e = refl
 changes-untouched name doc (item ∷ items) e =
@@ -85,7 +85,7 @@ changes-untouched name doc (item ∷ items) e =
     (not_so (touches name item) (and_first (not (touches name item)) _ e))
 
 -- choices by items that don't touch the name
-choices-untouched : (name : ByteList) (doc acc : Doc) (items : List Item)
+pub choices-untouched : (name : ByteList) (doc acc : Doc) (items : List Item)
     → is_untouched name items ≡ true
     → value_at name (over acc (filter_map (chosen doc) items)) ≡ value_at name acc
 choices-untouched name doc acc [] e = refl

@@ -156,7 +156,7 @@ reduced_keeps names op doc docs g h a =
     (ins_each (λ o. same_key names doc o ≡ true) (less op.sort) [] docs tt a)
 
 -- a metric's number under its name
-number_keeps : (name other : ByteList) (n : Option ℤ) (doc : Doc) → bytes_eq other name ≡ false
+pub number_keeps : (name other : ByteList) (n : Option ℤ) (doc : Doc) → bytes_eq other name ≡ false
     → value_at name (with_number other n doc) ≡ value_at name doc
 number_keeps name other None doc e = refl
 number_keeps name other (Some n) doc e = value_put-other name other (long n) doc e

@@ -7,3 +7,4 @@ pub mod AgreeLemmas
 pub mod ChosenLemmas
 pub mod KeyLemmas
 pub mod LawLemmas
+pub mod FieldLemmas

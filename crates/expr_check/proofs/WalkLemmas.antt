@@ -1,4 +1,4 @@
--- Orders, first faults and collections, one input after another.
+-- Orders, fields, first faults and collections, one input after another.
 use Rattle.std.proofs.Common.{◌≡◌, ℕ, ◌+◌, ◌<◌, List, [], ◌∷◌, ◌++◌, length, get_or, drop, Bool}
 use Rattle.std.proofs.Common.{true, Option, Some, None, refl, fold, ap, sym, ◌∙◌, append_assoc}
 use Rattle.std.specs.Prelude.{is_none}
@@ -7,17 +7,18 @@ use Rattle.std.proofs.lemmas.List.{append-nil, at_drop_more}
 use Rattle.tuple_values.specs.Document.{ByteList}
 use Rattle.sort_spec.specs.Texts.{once}
 use Rattle.sort_spec.proofs.OnceLemmas.{once_push}
-use Rattle.expr_types.specs.ExprTree.{ExprTree, inputs_of, inputs_in, operator_in}
+use Rattle.expr_types.specs.ExprTree.{ExprTree, ExprTrees, an_expr, inputs_of, inputs_in}
+use Rattle.expr_types.specs.ExprTree.{operator_in}
 use Rattle.expr_types.proofs.TreeLemmas.{node-parts}
-use Rattle.expr_check.specs.Walk.{order_of, orders_of}
-use Rattle.expr_check.specs.Rules.{order_given}
+use Rattle.expr_check.specs.Walk.{order_of, orders_of, fields_of, all_fields}
+use Rattle.expr_check.specs.Rules.{order_given, fields_given}
 use Rattle.expr_check.specs.Rules.{fault_at}
 use Rattle.expr_check.specs.Walk.{fault_where, faults_where}
 use Rattle.expr_check.specs.Reads.{with_name}
 use Rattle.expr_check.specs.Rules.{read_by}
 use Rattle.expr_check.specs.Walk.{searched_in, all_searched}
-use Rattle.expr_check.specs.declared.order.Order.{Order}
 use Rattle.expr_check.specs.declared.fault.CheckFault.{CheckFault}
+use Rattle.expr_check.specs.declared.order.Order.{Order}
 
 -- the first of three
 pub option_or-assoc : {T : Type 0} (a b c : Option T)
@@ -46,12 +47,30 @@ pub order_of-parts : (t : ExprTree)
     → order_of t ≡ order_given (operator_in t) (orders_of (inputs_of (inputs_in t)))
 order_of-parts t = ap order_of (sym (node-parts t))
 
+-- its fields are those of its operator over the fields of its inputs
+pub fields_of-parts : (t : ExprTree)
+    → fields_of t ≡ fields_given (operator_in t) (all_fields (inputs_of (inputs_in t)))
+fields_of-parts t = ap fields_of (sym (node-parts t))
+
 -- its first fault is that of its operator, or else that of its inputs
 pub fault_where-parts : (is_there : ByteList → Bool) (t : ExprTree)
     → fault_where is_there t
     ≡ option_or (fault_at is_there (operator_in t) (orders_of (inputs_of (inputs_in t))))
     (faults_where is_there (inputs_of (inputs_in t)))
 fault_where-parts is_there t = ap (fault_where is_there) (sym (node-parts t))
+
+-- so it is the first of those two that are found
+pub fault_found : (is_there : ByteList → Bool) (t : ExprTree) (own inner found : Option CheckFault)
+    (orders : List Order) → found ≡ option_or own inner
+    → own ≡ fault_at is_there (operator_in t) orders
+    → orders ≡ orders_of (inputs_of (inputs_in t))
+    → inner ≡ faults_where is_there (inputs_of (inputs_in t)) → found ≡ fault_where is_there t
+fault_found is_there t own inner found orders first here are within =
+    let op = operator_in t in
+    first
+    ∙ ap (λ w. option_or w inner) (here ∙ ap (fault_at is_there op) are)
+    ∙ ap (option_or (fault_at is_there op (orders_of (inputs_of (inputs_in t))))) within
+    ∙ sym (fault_where-parts is_there t)
 
 -- its collections are those of its operator and those of its inputs
 pub searched_in-parts : (list : List ByteList) (t : ExprTree)
@@ -63,18 +82,20 @@ searched_in-parts list t =
     ∙ fold-append with_name list (read_by (operator_in t))
     (all_searched (inputs_of (inputs_in t)))
 
--- the orders so far with one more, and those to come, are all
-pub orders_more : (exprs : List ExprTree) (k : ℕ) (e : ExprTree) (so_far : List Order) (o : Order)
-    → k < length exprs → e ≡ get_or exprs k e → o ≡ order_of e
-    → so_far ++ orders_of (inputs_of (drop k exprs)) ≡ orders_of (inputs_of exprs)
-    → (so_far ++ o ∷ []) ++ orders_of (inputs_of (drop (k + 1) exprs))
-    ≡ orders_of (inputs_of exprs)
-orders_more exprs k e so_far o lt is order all =
-    let rest = orders_of (inputs_of (drop (k + 1) exprs)) in
-    append_assoc so_far (o ∷ []) rest
+-- what is so of each input so far and of one more, and of those to come, is what is so of all
+pub inputs_more : {X : Type 0} (one : ExprTree → X) (each : ExprTrees → List X)
+    → ((e : ExprTree) (exprs : ExprTrees) → each (an_expr e exprs) ≡ one e ∷ each exprs)
+    → (exprs : List ExprTree) (k : ℕ) (e : ExprTree) (so_far : List X) (more : X)
+    → k < length exprs → e ≡ get_or exprs k e → more ≡ one e
+    → so_far ++ each (inputs_of (drop k exprs)) ≡ each (inputs_of exprs)
+    → (so_far ++ more ∷ []) ++ each (inputs_of (drop (k + 1) exprs)) ≡ each (inputs_of exprs)
+inputs_more one each first exprs k e so_far more lt is found all =
+    let rest = each (inputs_of (drop (k + 1) exprs)) in
+    append_assoc so_far (more ∷ []) rest
     ∙ ap (λ w. so_far ++ w)
-    (ap (λ x. x ∷ rest) (order ∙ ap order_of is)
-    ∙ sym (at_drop_more (λ r. orders_of (inputs_of r)) exprs k e lt))
+    (ap (λ x. x ∷ rest) (found ∙ ap one is)
+    ∙ sym (at_drop_more (λ r. each (inputs_of r)) exprs k e lt
+    ∙ first (get_or exprs k e) (inputs_of (drop (k + 1) exprs))))
     ∙ all
 
 -- the first fault so far or of one more, or else of those to come, is that of all

@@ -9,6 +9,7 @@ use Rattle.sort_spec.specs.Terms.{less}
 use Rattle.sort_spec.specs.declared.term.SortTerm.{SortTerm}
 use Rattle.expr_types.specs.declared.item.Item.{Item}
 use Rattle.expr_types.specs.declared.item.Item.TheVariants.{Field, Replace, Concat}
+use Rattle.expr_check.specs.Fields.{given_name}
 use Rattle.expr_check.specs.declared.order.Order.{Order}
 use Rattle.expr_check.specs.declared.order.Order.TheVariants.{Any, By}
 
@@ -19,9 +20,7 @@ IsInOrder (By terms) docs = IsAscending (less terms) docs
 
 -- the item gives a value to this name
 abbrev pub touches : ByteList → Item → Bool
-touches name (Field field to) = bytes_eq to name
-touches name (Replace field old new) = bytes_eq field name
-touches name (Concat fields into delim) = bytes_eq into name
+touches name item = bytes_eq (given_name item) name
 
 -- no item gives a value to this name
 abbrev pub is_untouched : ByteList → List Item → Bool

@@ -1,6 +1,6 @@
--- What the check knows of each function with its parameters, in one row of a table: the order in which
--- it gives its tuples, its own fault, and the collections that it names (own, after Solr Reference
--- Guide, "Stream Source Reference" and "Stream Decorator Reference").
+-- What the check knows of each function with its parameters, in one row of a table: the order in
+-- which it gives its tuples, their fields, its own fault, and the collections that it names (own,
+-- after Solr Reference Guide, "Stream Source Reference" and "Stream Decorator Reference").
 use Rattle.std.specs.Prelude.{List, [], ◌∷◌, length, Bool, Option, None, codes}
 use Rattle.tuple_values.specs.Document.{ByteList}
 use Rattle.expr_types.specs.ExprTree.{Operator, search, tuple, select, having, sort, top, unique}
@@ -8,6 +8,8 @@ use Rattle.expr_types.specs.ExprTree.{merge, reduce, rollup, inner_join, left_ou
 use Rattle.expr_types.specs.ExprTree.{complement, hash_join, outer_hash_join, in_parallel, topic}
 use Rattle.expr_types.specs.ExprTree.{update, commit, daemon, first_or}
 use Rattle.expr_check.specs.Orders.{kept_order, first_terms}
+use Rattle.expr_check.specs.Reads.{with_name}
+use Rattle.expr_check.specs.Fields.{keys_of, all_given, rolled_names, all_names, topic_names}
 use Rattle.expr_check.specs.Faults.{search_fault, names_fault, sort_fault, first_fault}
 use Rattle.expr_check.specs.declared.order.Order.{Order}
 use Rattle.expr_check.specs.declared.order.Order.TheVariants.{Any, By}
@@ -17,6 +19,8 @@ use Rattle.expr_check.specs.declared.fault.CheckFault.{CheckFault}
 pub record CheckRule : Type 0 where
   -- the order that it gives of the orders of its inputs
   pub order : List Order → Order
+  -- the fields of its tuples, of those of its inputs
+  pub fields : List (List ByteList) → List ByteList
   -- its fault over inputs of these orders, where these collections are there
   pub fault : (ByteList → Bool) → List Order → Option CheckFault
   -- the collections that it reads
@@ -24,10 +28,11 @@ pub record CheckRule : Type 0 where
   -- those that it names, which are to be there
   pub names : List ByteList
 
--- what gives its input's order, as far as it keeps it, and has no fault
+-- what gives its first input's order, as far as it keeps it, and its fields, and has no fault
 abbrev pub by_input : (Order → Order) → CheckRule
 by_input kept = record {
   order = λ orders. kept (first_or Any orders);
+  fields = λ lists. first_or [] lists;
   fault = λ is_there orders. None;
   reads = [];
   names = [];
@@ -37,12 +42,16 @@ by_input kept = record {
 abbrev pub of_its_own : Order → CheckRule
 of_its_own order = by_input (λ other. order)
 
+-- what gives these fields, of those of its inputs
+abbrev pub with_fields : (List (List ByteList) → List ByteList) → CheckRule → CheckRule
+with_fields given rule = record rule { fields = given }
+
 -- what needs the names as first fields of its inputs
 abbrev pub needs_names : ByteList → List ByteList → CheckRule → CheckRule
 needs_names function names rule =
     record rule { fault = λ is_there orders. first_fault (names_fault function names) orders }
 
--- what no call stands for yet is in the order of no term
+-- what no call stands for yet is in the order of no term, and has its first input's fields
 abbrev pub not_yet : CheckRule
 not_yet = of_its_own (By [])
 
@@ -50,29 +59,35 @@ not_yet = of_its_own (By [])
 abbrev pub check_rule : Operator → CheckRule
 check_rule (search p) = record {
   order = λ orders. By p.sort;
+  fields = λ lists. p.fl;
   fault = λ is_there orders. search_fault is_there p.collection p.sort p.fl;
   reads = p.collection ∷ [];
   names = p.collection ∷ [];
 }
-check_rule (tuple fields) = of_its_own Any
-check_rule (select items) = by_input (kept_order items)
+check_rule (tuple fields) = with_fields (λ lists. keys_of fields) (of_its_own Any)
+check_rule (select items) = with_fields (λ lists. all_given items) (by_input (kept_order items))
 check_rule (having condition) = by_input (λ order. order)
 check_rule (sort by) = of_its_own (By by)
 check_rule (top n by) = of_its_own (By by)
 check_rule (unique over) = needs_names (codes "unique") over (by_input (λ order. order))
-check_rule (merge on) =
-    record (of_its_own (By on)) { fault = λ is_there orders. first_fault (sort_fault on) orders }
-check_rule (reduce by op) = needs_names (codes "reduce") by (by_input (first_terms (length by)))
+check_rule (merge on) = record (of_its_own (By on)) {
+  fields = all_names;
+  fault = λ is_there orders. first_fault (sort_fault on) orders;
+}
+check_rule (reduce by op) =
+    with_fields (λ lists. with_name (first_or [] lists) (codes "group"))
+    (needs_names (codes "reduce") by (by_input (first_terms (length by))))
 check_rule (rollup over metrics) =
-    needs_names (codes "rollup") over (by_input (first_terms (length over)))
-check_rule (inner_join on) = not_yet
-check_rule (left_outer_join on) = not_yet
+    with_fields (λ lists. rolled_names over metrics)
+    (needs_names (codes "rollup") over (by_input (first_terms (length over))))
+check_rule (inner_join on) = with_fields all_names not_yet
+check_rule (left_outer_join on) = with_fields all_names not_yet
 check_rule (intersect on) = not_yet
 check_rule (complement on) = not_yet
-check_rule (hash_join on) = not_yet
-check_rule (outer_hash_join on) = not_yet
+check_rule (hash_join on) = with_fields all_names not_yet
+check_rule (outer_hash_join on) = with_fields all_names not_yet
 check_rule (in_parallel collection workers by) = not_yet
-check_rule (topic p) = not_yet
+check_rule (topic p) = with_fields (λ lists. topic_names p.fl) not_yet
 check_rule (update dest size) = not_yet
 check_rule (commit dest size) = not_yet
 check_rule (daemon id interval terminate) = not_yet
@@ -80,6 +95,10 @@ check_rule (daemon id interval terminate) = not_yet
 -- the order that an operator gives of the orders of its inputs
 abbrev pub order_given : Operator → List Order → Order
 order_given op orders = (check_rule op).order orders
+
+-- the fields that an operator's tuples have, of those of its inputs
+abbrev pub fields_given : Operator → List (List ByteList) → List ByteList
+fields_given op lists = (check_rule op).fields lists
 
 -- the fault of an operator over inputs of these orders, where these collections are there
 abbrev pub fault_at : (ByteList → Bool) → Operator → List Order → Option CheckFault

@@ -1,5 +1,5 @@
--- What is so of a whole expression: its order, its first fault, a call before its inputs and inputs
--- from the left to the right, and its collections (own).
+-- What is so of a whole expression: its order, its fields, its first fault, a call before its
+-- inputs and inputs from the left to the right, and its collections (own).
 use Rattle.std.specs.Prelude.{List, [], ◌∷◌, ◌++◌, Bool, true, Option, None}
 use Rattle.std.specs.Option.{option_or}
 use Rattle.tuple_values.specs.Collections.{is_known}
@@ -7,7 +7,7 @@ use Rattle.tuple_values.specs.Document.{ByteList}
 use Rattle.tuple_values.specs.declared.names.NameShards.{NameShards}
 use Rattle.sort_spec.specs.Texts.{once}
 use Rattle.expr_types.specs.ExprTree.{ExprTree, node, ExprTrees, no_exprs, an_expr}
-use Rattle.expr_check.specs.Rules.{order_given, fault_at, read_by, named_by}
+use Rattle.expr_check.specs.Rules.{order_given, fields_given, fault_at, read_by, named_by}
 use Rattle.expr_check.specs.declared.order.Order.{Order}
 use Rattle.expr_check.specs.declared.fault.CheckFault.{CheckFault}
 
@@ -20,6 +20,16 @@ abbrev mutual
   pub orders_of : ExprTrees → List Order
   orders_of no_exprs = []
   orders_of (an_expr e exprs) = order_of e ∷ orders_of exprs
+
+-- the fields of an expression
+abbrev mutual
+  pub fields_of : ExprTree → List ByteList
+  fields_of (node op inputs) = fields_given op (all_fields inputs)
+
+  -- those of inputs
+  pub all_fields : ExprTrees → List (List ByteList)
+  all_fields no_exprs = []
+  all_fields (an_expr e exprs) = fields_of e ∷ all_fields exprs
 
 -- the first fault of an expression, where these collections are there
 abbrev mutual

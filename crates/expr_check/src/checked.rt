@@ -4,9 +4,7 @@ ghost use Rattle.std.specs.Coded.{Coded-set};
 ghost use Rattle.expr_types.specs.ExprTree.{expr_tree};
 ghost use Rattle.expr_types.specs.Planned.{IsPlanned};
 ghost use Rattle.expr_types.proofs.PlannedLemmas.{IsPlanned-prop};
-ghost use Rattle.expr_check.specs.Walk.{order_of};
-ghost use Rattle.expr_check.specs.Walk.{own_fault};
-ghost use Rattle.expr_check.specs.Walk.{collections_of};
+ghost use Rattle.expr_check.specs.Walk.{order_of, fields_of, own_fault, collections_of};
 
 use crate::Order;
 use crate::reads::are_known;
@@ -18,31 +16,41 @@ use tuple_values::{FieldList, Names};
 pub struct Checked {
     expr: Expr,
     order: Order,
+    fields: FieldList,
     collections: FieldList,
     pub ghost planned: { IsPlanned (expr_tree expr) } by { IsPlanned-prop (expr_tree expr) },
     pub ghost met: { is_none (own_fault (expr_tree expr)) ≡ true },
     pub ghost ordered: { order ≡ order_of (expr_tree expr) } by { Coded-set order-code _ _ },
+    pub ghost named: { fields ≡ fields_of (expr_tree expr) },
     pub ghost reads: { collections ≡ collections_of (expr_tree expr) },
 }
 
 impl Checked {
     ghost use Rattle.expr_types.specs.Rules.{Collections};
     ghost use Rattle.expr_types.specs.Lists.{list_of, AreSorted};
+    ghost use Rattle.expr_check.specs.Fields.{HaveOnly};
     ghost use Rattle.expr_check.specs.Orders.{IsInOrder};
     ghost use Rattle.expr_check.specs.Reads.{are_known};
     ghost use Rattle.expr_check.specs.Views.{expr_of, tree_of};
 
     // The expression with what was found of it.
-    pub(crate) fn new(expr: Expr, order: Order, collections: FieldList) -> Checked
+    pub(crate) fn new(
+        expr: Expr,
+        order: Order,
+        fields: FieldList,
+        collections: FieldList,
+    ) -> Checked
         requires planned { IsPlanned (expr_tree expr) }
         requires met { is_none (own_fault (expr_tree expr)) ≡ true }
         requires ordered { order ≡ order_of (expr_tree expr) }
+        requires named { fields ≡ fields_of (expr_tree expr) }
         requires reads { collections ≡ collections_of (expr_tree expr) }
         ensures { expr_of result ≡ expr }
     {
         Checked {
             expr,
             order,
+            fields,
             collections,
         }
     }
@@ -67,6 +75,17 @@ impl Checked {
             → IsInOrder result.now (list_of docs (tree_of self.now)) }
     {
         &self.order
+    }
+
+    /// The names of the fields that the expression's tuples may have.
+    pub fn fields(&self) -> &FieldList
+        ensures value { result.now ≡ fields_of (tree_of self.now) }
+
+        // Whatever the documents are, no tuple has a field outside.
+        ensures within { (docs : Collections)
+            → HaveOnly result.now (list_of docs (tree_of self.now)) }
+    {
+        &self.fields
     }
 
     /// The collections that the expression reads, each once, in the walk's order.

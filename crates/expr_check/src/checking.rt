@@ -3,7 +3,7 @@ ghost use Rattle.std.specs.Prelude.{◌≡◌, ◌≢◌, None, Some, IfOk, IfEr
 ghost use Rattle.expr_types.specs.ExprTree.{expr_tree};
 ghost use Rattle.expr_types.specs.Planned.{IsPlanned};
 ghost use Rattle.expr_check.specs.Walk.{fault_of};
-ghost use Rattle.expr_check.specs.Law.{InputsAreSorted, ListsAreInOrder};
+ghost use Rattle.expr_check.specs.Law.{InputsAreSorted, ListsAreInOrder, ListsHaveOnlyFields};
 ghost use Rattle.expr_check.specs.Walk.{named_in};
 ghost use Rattle.expr_check.specs.Reads.{are_known};
 ghost use Rattle.expr_check.specs.Views.{expr_of};
@@ -33,13 +33,17 @@ pub fn check(alloc: Global, expr: Expr, names: &Names) -> Result<Checked, CheckF
     // What is checked is this expression.
     ensures whole { IfOk result (λ checked. expr_of checked ≡ expr) }
 {
-    let Walked { order, fault } = walk(alloc, &expr, names)?;
+    let Walked {
+        order,
+        fields,
+        fault,
+    } = walk(alloc, &expr, names)?;
     if let Some(fault) = fault {
         return Err(fault);
     }
     let mut collections = FieldList::new(alloc);
     add_searched(alloc, &expr, &mut collections)?;
-    Ok(Checked::new(expr, order, collections))
+    Ok(Checked::new(expr, order, fields, collections))
 }
 
 /// The law of expressions: where there is no fault, each input is in the order that its function
@@ -47,4 +51,10 @@ pub fn check(alloc: Global, expr: Expr, names: &Names) -> Result<Checked, CheckF
 pub fn orders_hold()
     ensures sorted { InputsAreSorted }
     ensures ordered { ListsAreInOrder }
+{}
+
+/// The law of fields: no tuple that an expression gives has a field outside those of the
+/// expression, whatever the documents are.
+pub fn fields_hold()
+    ensures { ListsHaveOnlyFields }
 {}

@@ -1,9 +1,11 @@
-//! Whether an expression may be evaluated, and in which order it gives its tuples.
+//! Whether an expression may be evaluated, in which order it gives its tuples, and which fields
+//! they have.
 #![tactic(auto)]
 
 mod checked;
 mod checking;
 mod fault;
+mod fields;
 mod needs;
 mod order;
 mod orders;
@@ -15,6 +17,6 @@ mod texts;
 mod walk;
 
 pub use checked::Checked;
-pub use checking::{check, orders_hold};
+pub use checking::{check, fields_hold, orders_hold};
 pub use fault::CheckFault;
 pub use order::Order;

@@ -4,6 +4,7 @@ ghost use Rattle.expr_check.specs.Orders.{touches, is_touched_once, new_name};
 ghost use Rattle.expr_check.specs.Orders.{kept_terms, kept_order, first_terms};
 
 use crate::Order;
+use crate::fields::given_name;
 use expr_types::{Item, Items};
 use sort_spec::{SortSpec, SortTerm};
 use std::alloc::Global;
@@ -13,11 +14,7 @@ use tuple_values::{Memory, Text, TryCopy};
 fn touches(name: &str, item: &Item) -> bool
     ensures { result ≡ touches name.now item.now }
 {
-    match item {
-        Item::Field { to, .. } => to.as_str() == name,
-        Item::Replace { field, .. } => field.as_str() == name,
-        Item::Concat { into, .. } => into.as_str() == name,
-    }
+    given_name(item).as_str() == name
 }
 
 // Whether just one item gives a value to this name.

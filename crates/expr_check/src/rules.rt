@@ -1,12 +1,16 @@
-// What the check knows of each function: its fault, its order, and the collection that it reads.
+// What the check knows of each function: its fault, its order, its fields, and the collection that
+// it reads.
 ghost use Rattle.std.specs.Prelude.{◌≡◌, IfOk, OnOk, fold};
 ghost use Rattle.tuple_values.specs.Collections.{is_known};
 ghost use Rattle.expr_types.specs.ExprTree.{operator_in, first_or};
 ghost use Rattle.expr_types.specs.ExprTree.{expr_tree};
 ghost use Rattle.expr_check.specs.Reads.{with_name};
-ghost use Rattle.expr_check.specs.Rules.{fault_at, order_given, read_by};
+ghost use Rattle.expr_check.specs.Rules.{fault_at, order_given, fields_given, read_by};
 ghost use Rattle.expr_check.specs.declared.order.Order.TheVariants.{Any};
 
+use crate::fields::{
+    all_given, all_names, first_list, keys_of, rolled_names, topic_names, with_group,
+};
 use crate::needs::{names_faults, search_fault, sort_faults};
 use crate::orders::{first_terms, kept_order};
 use crate::{CheckFault, Order};
@@ -92,6 +96,40 @@ pub(crate) fn order_given(alloc: Global, expr: &Expr, orders: Vec<Order>) -> Res
         | Expr::Update { .. }
         | Expr::Commit { .. }
         | Expr::Daemon { .. } => Ok(Order::By(SortSpec::new(alloc))),
+    }
+}
+
+/// The fields that the function's tuples have, of those of its inputs.
+pub(crate) fn fields_given(
+    alloc: Global,
+    expr: &Expr,
+    lists: Vec<FieldList>,
+) -> Result<FieldList, Memory>
+    ensures { IfOk result (λ fields. fields
+        ≡ fields_given (operator_in (expr_tree expr.now)) lists.items) }
+{
+    match expr {
+        Expr::Search { fl, .. } => fl.copy(alloc),
+        Expr::Tuple { fields } => keys_of(alloc, fields),
+        Expr::Select { items, .. } => all_given(alloc, items),
+        Expr::Reduce { .. } => with_group(alloc, first_list(alloc, lists)),
+        Expr::Rollup { over, metrics, .. } => rolled_names(alloc, over, metrics),
+        Expr::Merge { .. }
+        | Expr::InnerJoin { .. }
+        | Expr::LeftOuterJoin { .. }
+        | Expr::HashJoin { .. }
+        | Expr::OuterHashJoin { .. } => all_names(alloc, lists),
+        Expr::Topic { fl, .. } => topic_names(alloc, fl),
+        Expr::Having { .. }
+        | Expr::Sort { .. }
+        | Expr::Top { .. }
+        | Expr::Unique { .. }
+        | Expr::Intersect { .. }
+        | Expr::Complement { .. }
+        | Expr::Parallel { .. }
+        | Expr::Update { .. }
+        | Expr::Commit { .. }
+        | Expr::Daemon { .. } => Ok(first_list(alloc, lists)),
     }
 }
 

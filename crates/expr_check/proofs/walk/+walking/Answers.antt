@@ -1,12 +1,11 @@
-use Rattle.std.proofs.Common.{◌<◌, ◌+◌, ◌++◌, ◌∙◌, ap, length, drop, Bool, arith}
+use Rattle.std.proofs.Common.{◌<◌, ◌+◌, ◌++◌, ◌∙◌, refl, ap, length, drop, Bool, arith}
 use Rattle.std.specs.Option.{option_or}
 use Rattle.tuple_values.specs.Collections.{is_known}
 use Rattle.tuple_values.specs.Document.{ByteList}
 use Rattle.expr_types.specs.ExprTree.{inputs_in, inputs_of}
 use Rattle.expr_types.specs.ExprTree.{expr_tree}
-use Rattle.expr_check.specs.Walk.{faults_where}
-use Rattle.expr_check.specs.Walk.{orders_of}
-use Rattle.expr_check.proofs.WalkLemmas.{fault_where-parts, orders_more}
+use Rattle.expr_check.specs.Walk.{order_of, orders_of, fields_of, all_fields, faults_where}
+use Rattle.expr_check.proofs.WalkLemmas.{fault_found, fields_of-parts, inputs_more}
 use Rattle.expr_check.proofs.WalkLemmas.{faults_more}
 use Rattle.expr_check.proofs.walk.+walking.Goals as goal
 
@@ -19,9 +18,15 @@ walk_inputs-loop-k-preserved t c =
       orders =
           ap (λ w. w ++ orders_of (inputs_of (drop (c.loop-k.k + 1) inputs)))
           c.in_ok-push.ensures.items
-          ∙ orders_more inputs c.loop-k.k (expr_tree c.input.result.now) c.loop-k.orders.items
-          c.in_ok-walked.walked.order lt (c.input.ensures.value _) c.in_ok-walked.ensures.order
-          c.loop-k.invariant.orders;
+          ∙ inputs_more order_of orders_of (λ e exprs. refl) inputs c.loop-k.k
+          (expr_tree c.input.result.now) c.loop-k.orders.items c.in_ok-walked.walked.order lt
+          (c.input.ensures.value _) c.in_ok-walked.ensures.order c.loop-k.invariant.orders;
+      fields =
+          ap (λ w. w ++ all_fields (inputs_of (drop (c.loop-k.k + 1) inputs)))
+          c.in_ok-push-2.ensures.items
+          ∙ inputs_more fields_of all_fields (λ e exprs. refl) inputs c.loop-k.k
+          (expr_tree c.input.result.now) c.loop-k.fields.items c.in_ok-walked.walked.fields lt
+          (c.input.ensures.value _) c.in_ok-walked.ensures.fields c.loop-k.invariant.fields;
       fault =
           ap (λ w. option_or w (faults_where is_there (inputs_of (drop (c.loop-k.k + 1) inputs))))
           c.or-fault.ensures
@@ -30,17 +35,20 @@ walk_inputs-loop-k-preserved t c =
           c.loop-k.invariant.fault;
     }
 
+pub walk-returns-clause-fields : goal.walk-returns-clause-fields
+walk-returns-clause-fields t c =
+    cc (
+      c.in_ok-fields.ensures,
+      c.in_ok-orders.ensures.fields,
+      c.in_ok-orders.fields-is,
+      fields_of-parts (expr_tree c.args.expr.now),
+    )
+
 pub walk-returns-clause-fault : goal.walk-returns-clause-fault
 walk-returns-clause-fault t c =
     let whole = expr_tree c.args.expr.now in
     let is_there : ByteList → Bool = λ name. is_known name c.args.names.now in
-    cc (
-      c.or.ensures,
-      c.in_ok-own.ensures,
-      c.as_slice.ensures.value,
-      c.in_ok-orders.ensures.orders,
-      c.in_ok-orders.orders-is,
-      c.in_ok-orders.ensures.fault,
-      c.in_ok-orders.fault-is,
-      fault_where-parts is_there whole,
-    )
+    fault_found is_there whole c.in_ok-own.own c.in_ok-orders.field-0.fault c.or.result
+    c.as_slice.result.now c.or.ensures c.in_ok-own.ensures
+    (cc (c.as_slice.ensures.value, c.in_ok-orders.ensures.orders, c.in_ok-orders.orders-is))
+    c.in_ok-orders.ensures.fault
