@@ -2,12 +2,11 @@
 ghost use Rattle.std.specs.Prelude.{◌≡◌, ◌++◌, [], IfOk, OnOk, codes, map};
 ghost use Rattle.sort_spec.specs.Texts.{once};
 ghost use Rattle.expr_types.specs.ExprTree.{first_or};
-ghost use Rattle.expr_types.specs.Groups.{metric_name};
 ghost use Rattle.expr_check.specs.Fields.{keys_of, given_name, all_given, rolled_names};
 ghost use Rattle.expr_check.specs.Fields.{all_names, topic_names};
 ghost use Rattle.expr_check.specs.Reads.{with_name};
 
-use expr_types::{Item, Items, Metric, Metrics};
+use expr_types::{Item, Items, Metrics};
 use std::alloc::Global;
 use tuple_values::{FieldList, Memory, Text, TryCopy, Tuple};
 
@@ -100,25 +99,6 @@ pub(crate) fn all_given(alloc: Global, items: &Items) -> Result<FieldList, Memor
     once(alloc, list)
 }
 
-fn over_field(alloc: Global, function: &str, field: &Text) -> Result<Text, Memory>
-    ensures { IfOk result (λ name. name ≡ function.now ++ field.now ++ codes ")") }
-{
-    let field = field.as_str();
-    Ok(Text::from_string(format!(in alloc; "{function}{field})")?))
-}
-
-// The name of a metric.
-fn metric_name(alloc: Global, metric: &Metric) -> Result<Text, Memory>
-    ensures { IfOk result (λ name. name ≡ metric_name metric.now) }
-{
-    match metric {
-        Metric::Sum(field) => over_field(alloc, "sum(", field),
-        Metric::Min(field) => over_field(alloc, "min(", field),
-        Metric::Max(field) => over_field(alloc, "max(", field),
-        Metric::Count => Text::of(alloc, "count(*)"),
-    }
-}
-
 /// The names of a key and of metrics, each once.
 pub(crate) fn rolled_names(
     alloc: Global,
@@ -129,7 +109,7 @@ pub(crate) fn rolled_names(
 {
     let mut list = over.copy(alloc)?;
     for metric in metrics.as_slice() {
-        list.push(metric_name(alloc, metric)?)?;
+        list.push(metric.name(alloc)?)?;
     }
     once(alloc, list)
 }

@@ -1,5 +1,5 @@
 // Metrics among the arguments of a call.
-ghost use Rattle.std.specs.Prelude.{◌≡◌, ◌++◌, IfOk, codes, option_map};
+ghost use Rattle.std.specs.Prelude.{◌≡◌, IfOk, option_map};
 ghost use Rattle.expr_reader.specs.Views.{call_tree, arg_tree};
 ghost use Rattle.expr_types.specs.Groups.{metric_name};
 ghost use Rattle.expr_plan.specs.Items.{metric_of_field, metric_over, metric_called, metric_of_call, metric_of_arg, metric_names};
@@ -65,34 +65,13 @@ pub(crate) fn metric_of(alloc: Global, call: &Call) -> Result<Option<Metric>, Me
     metric_called(alloc, call.name.as_str(), &call.args)
 }
 
-/// The name of a metric, which is that of its field.
-pub(crate) fn metric_name(alloc: Global, metric: &Metric) -> Result<Text, Memory>
-    ensures { IfOk result (λ name. name ≡ metric_name metric.now) }
-{
-    match metric {
-        Metric::Sum(field) => over_field(alloc, "sum(", field),
-        Metric::Min(field) => over_field(alloc, "min(", field),
-        Metric::Max(field) => over_field(alloc, "max(", field),
-        Metric::Count => Text::of(alloc, "count(*)"),
-    }
-}
-
-fn over_field(alloc: Global, head: &str, field: &Text) -> Result<Text, Memory>
-    ensures { IfOk result (λ name. name ≡ head.now ++ field.now ++ codes ")") }
-{
-    let mut name = String::from_str(alloc, head)?;
-    name.push_str(field.as_str())?;
-    name.push_str(")")?;
-    Ok(Text::from_string(name))
-}
-
 /// The name of the metric that a call is.
 pub(crate) fn metric_name_of(alloc: Global, call: &Call) -> Result<Option<Text>, Memory>
     ensures { IfOk result (λ name. name
         ≡ option_map metric_name (metric_of_call (call_tree call.now))) }
 {
     match metric_of(alloc, call)? {
-        Some(metric) => Ok(Some(metric_name(alloc, &metric)?)),
+        Some(metric) => Ok(Some(metric.name(alloc)?)),
         None => Ok(None),
     }
 }

@@ -5,6 +5,7 @@ mod condition;
 mod copying;
 mod expr;
 mod item;
+mod naming;
 mod source_copies;
 #[cfg(test)]
 mod tests;

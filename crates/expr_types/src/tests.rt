@@ -15,8 +15,8 @@ fn what_a_function_is_given_is_copied(rt: HostRuntime) -> Result<(), Fail> {
     let sort = read_sort(alloc, "a asc")?;
     let group = GroupOp { sort, n: 2 }.copy(alloc)?;
     let item = matches!(&item, Item::Field { to, .. } if to.as_str() == "b");
-    let metric = matches!(&metric, Metric::Sum(field) if field.as_str() == "a");
-    assert!(rt; item && metric && group.n == 2);
+    let name = metric.name(alloc)?;
+    assert!(rt; item && name.as_str() == "sum(a)" && group.n == 2);
     Ok(())
 }
 

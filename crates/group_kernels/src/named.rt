@@ -1,5 +1,5 @@
 // Metrics with their names.
-ghost use Rattle.std.specs.Prelude.{◌≡◌, IfOk, ◌++◌, codes, map};
+ghost use Rattle.std.specs.Prelude.{◌≡◌, IfOk, map};
 ghost use Rattle.expr_types.specs.Groups.{metric_name};
 
 use expr_types::Metric;
@@ -28,27 +28,7 @@ pub(crate) fn all_named(alloc: Global, metrics: &[Metric]) -> Result<Vec<Named>,
 fn with_name(alloc: Global, metric: &Metric) -> Result<Named, Memory>
     ensures { IfOk result (λ named. named.metric ≡ metric.now) }
 {
-    let name = metric_name(alloc, metric)?;
+    let name = metric.name(alloc)?;
     let metric = metric.copy(alloc)?;
     Ok(Named { name, metric })
-}
-
-fn metric_name(alloc: Global, metric: &Metric) -> Result<Text, Memory>
-    ensures { IfOk result (λ name. name ≡ metric_name metric.now) }
-{
-    match metric {
-        Metric::Sum(field) => over_field(alloc, "sum(", field),
-        Metric::Min(field) => over_field(alloc, "min(", field),
-        Metric::Max(field) => over_field(alloc, "max(", field),
-        Metric::Count => Text::of(alloc, "count(*)"),
-    }
-}
-
-fn over_field(alloc: Global, head: &str, field: &Text) -> Result<Text, Memory>
-    ensures { IfOk result (λ name. name ≡ head.now ++ field.now ++ codes ")") }
-{
-    let mut name = String::from_str(alloc, head)?;
-    name.push_str(field.as_str())?;
-    name.push_str(")")?;
-    Ok(Text::from_string(name))
 }
