@@ -1,6 +1,6 @@
 -- No tuple has a field outside the fields of its expression.
 use Rattle.std.proofs.Common.{◌≡◌, ℕ, List, [], ◌∷◌, ◌++◌, Bool, true, false, ◌||◌, not, ◌&&◌}
-use Rattle.std.proofs.Common.{None, take, map, fold, filter, if◌then◌else◌}
+use Rattle.std.proofs.Common.{take, map, fold, filter, if◌then◌else◌}
 use Rattle.std.proofs.Common.{refl, sym, ◌∙◌, ap, codes}
 use Rattle.std.specs.Prelude.{bytes_eq, flat_map}
 use Rattle.std.specs.List.{AllByRecursion, filter_map}
@@ -21,7 +21,7 @@ use Rattle.expr_types.specs.Groups.{same_key, firsts, groups, with_group, reduce
 use Rattle.expr_types.specs.Groups.{metric_name, metric_of, with_number, key_of, rolled}
 use Rattle.expr_types.specs.Groups.{rollup_list}
 use Rattle.expr_types.specs.Lists.{list_of, lists_of}
-use Rattle.expr_types.specs.Rows.{chosen, changed, selected, select_list}
+use Rattle.expr_types.specs.Rows.{chosen, selected, select_list}
 use Rattle.expr_types.specs.Rules.{Collections, given}
 use Rattle.expr_types.specs.Sources.{cut_to, found_rows, search_list}
 use Rattle.expr_types.specs.declared.item.GroupOp.{GroupOp}
@@ -35,7 +35,7 @@ use Rattle.expr_check.specs.Rules.{fields_given}
 use Rattle.expr_check.specs.Walk.{fields_of, all_fields}
 use Rattle.expr_check.proofs.NeedLemmas.{same_bytes, or_first, or_second}
 use Rattle.expr_check.proofs.AgreeLemmas.{past_other, value_put-other}
-use Rattle.expr_check.proofs.AscendLemmas.{each_filter, each_take, each_firsts, each_of}
+use Rattle.expr_check.proofs.AscendLemmas.{each_filter, each_take, each_firsts}
 use Rattle.expr_check.proofs.ChosenLemmas.{changes-untouched, choices-untouched}
 use Rattle.expr_check.proofs.KeyLemmas.{number_keeps}
 use Rattle.expr_check.proofs.WalkLemmas.{once-fold}
