@@ -4,7 +4,8 @@ use Rattle.std.proofs.lemmas.List.{take-append-le, set-get_or, drop-take, take_a
 use Rattle.std.proofs.Math.Seq.{take-add}
 use Rattle.std.specs.List.{AllByRecursion}
 use Rattle.shard_versions.specs.declared.cut.CutMark.{CutMark}
-use Rattle.exchange_rules.specs.Cells.{Noted, Log, author_of, signed}
+use Rattle.exchange_rules.specs.Cells.{Log, author_of, signed}
+use Rattle.exchange_rules.specs.declared.log_entry.LogEntry.{LogEntry}
 use Rattle.exchange_rules.specs.Courses.{Course, ends, looks, makes, run_alone}
 use Rattle.exchange_rules.specs.Acts.{Act, a_look, a_step, at_mark, IsLook, had_after}
 use Rattle.exchange_rules.specs.Following.{IsNext, rest_after, Follows, Grows, Writer, counts, Answers}
@@ -71,7 +72,7 @@ whole_look me seen had c m alone l =
     omega (arith, l.since, none)
 
 -- what holds of each entry holds of those behind a place
-pub all_drop : (P : Noted → Type 0) (k : ℕ) (d : Log) → AllByRecursion P d
+pub all_drop : (P : LogEntry → Type 0) (k : ℕ) (d : Log) → AllByRecursion P d
     → AllByRecursion P (drop k d)
 all_drop P zero d a = a
 all_drop P (suc k) [] a = tt
@@ -114,7 +115,8 @@ alone_own me seen had c k lt alone d =
     ]
 
 -- what an act of a writer that is alone leaves to be done, and to be seen
-record Stepped {A : Type 0} (me : ℕ) (seen : List Log) (had : List ℕ) (p : Course A) (act : Act)
+record Stepped {A : Type 0} (me : ℕ) (seen : List Log) (had : List ℕ) (p : Course A)
+    (act : Act)
     : Type 0 where
   still : IsAlone me (had_after had act) seen
   run : run_alone me (shown had seen) p
@@ -144,13 +146,13 @@ stepped me seen had (makes c s p) (a_step o) alone n =
     let after : set had o.cell (o.from + o.count) ≡ set had c (a + length s) =
     ap (λ x. set had x (o.from + o.count)) n.cell_is
     ∙ (ap (λ x. set had c (x + o.count)) n.from ∙ ap (λ x. set had c (a + x)) n.count) in
-    let stands : take (length s) (drop a h) ≡ signed me s =
+    let there : take (length s) (drop a h) ≡ signed me s =
     ap (λ x. take x (drop a h)) (sym n.count)
     ∙ (ap (λ x. take o.count (drop x h)) (sym n.from)
-    ∙ (ap (λ x. take o.count (drop o.from (get_or seen x []))) (sym n.cell_is) ∙ n.stands)) in
+    ∙ (ap (λ x. take o.count (drop o.from (get_or seen x []))) (sym n.cell_is) ∙ n.appended)) in
     let at : get_or (shown had seen) c [] ++ signed me s ≡ take (a + length s) h =
     ap (λ x. x ++ signed me s) (shown_at had seen c)
-    ∙ (ap (λ x. take a h ++ x) (sym stands) ∙ sym (take-add a (length s) h)) in
+    ∙ (ap (λ x. take a h ++ x) (sym there) ∙ sym (take-add a (length s) h)) in
     record {
       still = subst (λ x. IsAlone me x seen) (sym after)
           (alone_own me seen had c (length s) n.known alone);
@@ -170,7 +172,8 @@ follows_alone me seen had p [] q end alone f =
 follows_alone me seen had p (act ∷ acts) q end alone f =
     let s = stepped me seen had p act alone f.0 in
     s.run
-    ∙ follows_alone me seen (had_after had act) (rest_after seen p act) acts q end s.still f.1
+    ∙ follows_alone me seen (had_after had act)
+    (rest_after seen p act) acts q end s.still f.1
 
 -- and it is alone after them
 pub alone_after : {A : Type 0} (me : ℕ) (seen : List Log) (had : List ℕ) (p : Course A)

@@ -8,7 +8,8 @@ use Rattle.std.proofs.Math.Seq.{take-add}
 use Rattle.std.specs.List.{AllByRecursion}
 use Rattle.shard_versions.specs.declared.cut.CutMark.{CutMark}
 use Rattle.shard_versions.specs.declared.cut.OwnMark.{OwnMark}
-use Rattle.exchange_rules.specs.Cells.{Noted, Log, Deed, author_of, signed, signed_by, write, bind, store}
+use Rattle.exchange_rules.specs.declared.log_entry.LogEntry.{LogEntry}
+use Rattle.exchange_rules.specs.Cells.{Log, Payload, author_of, signed, signed_by, write, bind, store}
 use Rattle.exchange_rules.specs.Courses.{Course, ends, looks, makes}
 use Rattle.exchange_rules.specs.Acts.{Act, a_look, a_step, own_of, at_own, between, IsLook, IsOwn, had_after}
 use Rattle.exchange_rules.specs.Following.{rest_after, Follows}
@@ -33,14 +34,14 @@ between_join a u b h p q =
 -- the writer's entries of two logs
 pub by_writer-append : (me : ℕ) (a b : Log)
     → by_writer me (a ++ b) ≡ by_writer me a ++ by_writer me b
-by_writer-append me a b = filter-append (λ (n : Noted). author_of n == me) a b
+by_writer-append me a b = filter-append (λ (n : LogEntry). author_of n == me) a b
 
 -- an entry that fails a test
-skip : (t : Bool) (e : Noted) (x : Log) → t ≡ false → (if t then e ∷ x else x) ≡ x
+skip : (t : Bool) (e : LogEntry) (x : Log) → t ≡ false → (if t then e ∷ x else x) ≡ x
 skip t e x p = ap (λ b. if b then e ∷ x else x) p
 
 -- one that passes it
-keep : (t : Bool) (e : Noted) (x : Log) → t ≡ true → (if t then e ∷ x else x) ≡ e ∷ x
+keep : (t : Bool) (e : LogEntry) (x : Log) → t ≡ true → (if t then e ∷ x else x) ≡ e ∷ x
 keep t e x p = ap (λ b. if b then e ∷ x else x) p
 
 -- numbers that differ fail their test
@@ -56,13 +57,13 @@ by_writer_none me (e ∷ h) a =
     ∙ by_writer_none me h a.1
 
 -- a step under a number is by that writer
-author_of-signed : (me : ℕ) (d : Deed) → author_of (signed_by me d) ≡ me
+author_of-signed : (me : ℕ) (d : Payload) → author_of (signed_by me d) ≡ me
 author_of-signed me (write kind) = refl
 author_of-signed me (bind key b) = refl
 author_of-signed me (store key upto) = refl
 
 -- a step is the writer's own
-by_writer_signed : (me : ℕ) (step : List Deed) → by_writer me (signed me step) ≡ signed me step
+by_writer_signed : (me : ℕ) (step : List Payload) → by_writer me (signed me step) ≡ signed me step
 by_writer_signed me [] = refl
 by_writer_signed me (d ∷ step) =
     let e = signed_by me d in
@@ -121,7 +122,7 @@ look_counted me seen had d m own end c n k =
     ]
 
 -- a step adds what its own mark says
-step_counted : (me : ℕ) (seen : List Log) (had : List ℕ) (d : ℕ) (s : List Deed) (o : OwnMark)
+step_counted : (me : ℕ) (seen : List Log) (had : List ℕ) (d : ℕ) (s : List Payload) (o : OwnMark)
     (own : List OwnMark) (end : List ℕ) (c : ℕ) → IsOwn me seen had d s o
     → IsCounted me seen (had_after had (a_step o)) end own c
     → IsCounted me seen had end (o ∷ own) c
@@ -145,7 +146,7 @@ step_counted me seen had d s o own end c n k =
           ∙ (drop-take o.from o.count h
           ∙ ap (λ x. take o.count (drop o.from (get_or seen x []))) (sym w.1)) in
           let mine : by_writer me (between a u h) ≡ at_own seen o =
-          ap (by_writer me) (whole ∙ n.stands) ∙ (by_writer_signed me s ∙ sym n.stands) in
+          ap (by_writer me) (whole ∙ n.appended) ∙ (by_writer_signed me s ∙ sym n.appended) in
           let here : step_at c seen o ≡ at_own seen o =
           ap (λ t. if t then at_own seen o else []) w.0 in
           record {
@@ -169,7 +170,8 @@ step_counted me seen had d s o own end c n k =
 
 -- acts that follow a course: the writer's entries are just the own steps, at each cell
 pub follows_counted : {A : Type 0} (me : ℕ) (seen : List Log) (had : List ℕ) (p : Course A)
-    (acts : List Act) (q : Course A) (end : List ℕ) (c : ℕ) → Follows me seen had p acts q end
+    (acts : List Act) (q : Course A) (end : List ℕ) (c : ℕ)
+    → Follows me seen had p acts q end
     → IsCounted me seen had end (own_of acts) c
 follows_counted me seen had p [] q end c f =
     let h = get_or seen c [] in
@@ -185,7 +187,8 @@ follows_counted me seen had (makes d s p) (a_look m ∷ acts) q end c f = absurd
 follows_counted me seen had (looks d see) (a_look m ∷ acts) q end c f =
     let act = a_look m in
     look_counted me seen had d m (own_of acts) end c f.0
-    (follows_counted me seen (had_after had act) (rest_after seen (looks d see) act) acts q end c
+    (follows_counted me seen (had_after had act)
+    (rest_after seen (looks d see) act) acts q end c
     f.1)
 follows_counted me seen had (makes d s p) (a_step o ∷ acts) q end c f =
     step_counted me seen had d s o (own_of acts) end c f.0

@@ -10,7 +10,7 @@ use Rattle.shard_versions.specs.Histories.{History, is_mark}
 use Rattle.shard_versions.specs.declared.entry.Entry.{Entry}
 use Rattle.shard_versions.specs.declared.entry.Kind.{Kind}
 use Rattle.shard_versions.specs.declared.entry.Kind.TheVariants.{Put, Del, Sent, Mark}
-use Rattle.exchange_rules.specs.Calls.{Stands, Refused, Passed, Tells}
+use Rattle.exchange_rules.specs.Calls.{HasAppended, Refused, Passed, IsFaultFor}
 use Rattle.exchange_rules.specs.Cells.{Log, history_in, write}
 use Rattle.exchange_rules.specs.Courses.{Course, ends, looks, and_ok}
 use Rattle.exchange_rules.specs.Deliveries.{admitted_kinds, send_admitted, deliver_course, send_step, send_at, send_shards}
@@ -20,8 +20,8 @@ use Rattle.exchange_rules.specs.Rows.{Layout, length_below}
 use Rattle.exchange_rules.specs.Steps.{closed, entries_by, fitting, is_over, kinds_of, writes_in}
 use Rattle.exchange_rules.specs.declared.fault.SiteFault.{SiteFault}
 use Rattle.exchange_rules.proofs.RoutingLemmas.{writes_in-closed}
-use Rattle.exchange_rules.proofs.StandLemmas.{stands_join, stands_ok, stands_same, refused_on, refused_then}
-use Rattle.exchange_rules.proofs.StepLemmas.{fitting_stands, kinds_of-entries_by, look_passed, refused_told}
+use Rattle.exchange_rules.proofs.AppendedLemmas.{appended_join, appended_ok, appended_same, refused_on, refused_then}
+use Rattle.exchange_rules.proofs.StepLemmas.{fitting_appended, kinds_of-entries_by, look_passed, refused_for}
 
 -- two lists of kinds that are the same begin with the same kind, and go on in the same way
 record Alike (x y : Entry) (xs ys : List Entry) : Type 0 where
@@ -149,32 +149,32 @@ admitted_kinds-few h ks =
     omega (arith, size, long, few)
 
 -- what was admitted stands
-pub deliver_stands : (old new : Writer) (limit c : ℕ) (refusal : SiteFault) (h : History)
+pub deliver_appended : (old new : Writer) (limit c : ℕ) (refusal : SiteFault) (h : History)
     (ks : List Kind) → c < length old.seen → is_over limit h ks ≡ false
     → writes_in ks ≡ length ks → new ≡ delivered old c ks
-    → Stands old new (send_admitted limit c refusal h ks) (ends (Ok (length ks))) (length ks)
-deliver_stands old new limit c refusal h [] lt fits writes e =
-    stands_same old new (ends (Ok 0)) e
-deliver_stands old new limit c refusal h (k ∷ ks) lt fits writes e =
+    → HasAppended old new (send_admitted limit c refusal h ks) (ends (Ok (length ks))) (length ks)
+deliver_appended old new limit c refusal h [] lt fits writes e =
+    appended_same old new (ends (Ok 0)) e
+deliver_appended old new limit c refusal h (k ∷ ks) lt fits writes e =
     let step = closed true (k ∷ ks) in
     let next : Unit {0} → Course (Result ℕ SiteFault) = λ _. ends (Ok (length (k ∷ ks))) in
     let all = writes_in-closed true (k ∷ ks) ∙ writes in
-    subst (Stands old new (send_admitted limit c refusal h (k ∷ ks))
+    subst (HasAppended old new (send_admitted limit c refusal h (k ∷ ks))
     (ends (Ok (length (k ∷ ks))))) all
-    (stands_ok old new (fitting limit c step refusal h) tt next (writes_in step)
-    (fitting_stands old new limit c step refusal h lt fits e))
+    (appended_ok old new (fitting limit c step refusal h) tt next (writes_in step)
+    (fitting_appended old new limit c step refusal h lt fits e))
 
 -- or was refused for its size
 pub deliver_refused : (before : ℕ) (old new : Writer) (limit c : ℕ) (refusal : SiteFault)
     (h : History) (ks : List Kind) (fault : SiteFault) → is_over limit h ks ≡ true → new ≡ old
-    → Tells refusal before fault
+    → IsFaultFor refusal before fault
     → Refused before old new (send_admitted limit c refusal h ks) fault
 deliver_refused before old new limit c refusal h [] fault full e t = absurd (cc)
 deliver_refused before old new limit c refusal h (k ∷ ks) fault full e t =
     let step = closed true (k ∷ ks) in
     let next : Unit {0} → Course (Result ℕ SiteFault) = λ _. ends (Ok (length (k ∷ ks))) in
     refused_then before old new (fitting limit c step refusal h) next fault
-    (refused_told before old new limit c step refusal h fault full e t)
+    (refused_for before old new limit c step refusal h fault full e t)
 
 -- nothing is delivered where there is nothing
 pub send_none : (limit c : ℕ) (refusal : SiteFault) (ks : List Kind) → length ks ≡ 0
@@ -200,29 +200,29 @@ sends_next : (l : Layout) (dest : ByteList) (share : ℕ → List Kind) (sent n 
 sends_next l dest share sent n s lt = ap (send_shards l dest share sent s) (one_less n s lt)
 
 -- one more shard has its share
-pub sends_stand : (old mid new : Writer) (p : Course (Result ℕ SiteFault)) (l : Layout)
+pub sends_appended : (old mid new : Writer) (p : Course (Result ℕ SiteFault)) (l : Layout)
     (dest : ByteList) (share : ℕ → List Kind) (n s sent more : ℕ) → s < n
-    → Stands old mid p (send_shards l dest share sent s (n - s)) sent
+    → HasAppended old mid p (send_shards l dest share sent s (n - s)) sent
     → Passed sent mid new (send_at l dest share sent s) more (Ok more)
-    → Stands old new p (send_shards l dest share (sent + more) (s + 1) (n - (s + 1)))
+    → HasAppended old new p (send_shards l dest share (sent + more) (s + 1) (n - (s + 1)))
     (sent + more)
-sends_stand old mid new p l dest share n s sent more lt a b =
+sends_appended old mid new p l dest share n s sent more lt a b =
     let at = send_at l dest share sent s in
     let next = λ (k : ℕ). send_shards l dest share (sent + k) (s + 1) (n - (s + 1)) in
-    let a' = subst (λ q. Stands old mid p q sent) (sends_next l dest share sent n s lt) a in
-    stands_join old mid new p (and_ok at next) (next more) sent more a'
-    (stands_ok mid new at more next more b)
+    let a' = subst (λ q. HasAppended old mid p q sent) (sends_next l dest share sent n s lt) a in
+    appended_join old mid new p (and_ok at next) (next more) sent more a'
+    (appended_ok mid new at more next more b)
 
 -- or is refused
 pub sends_refused : (old mid new : Writer) (p : Course (Result ℕ SiteFault)) (l : Layout)
     (dest : ByteList) (share : ℕ → List Kind) (n s sent : ℕ) (fault : SiteFault) → s < n
-    → Stands old mid p (send_shards l dest share sent s (n - s)) sent
+    → HasAppended old mid p (send_shards l dest share sent s (n - s)) sent
     → Refused sent mid new (send_at l dest share sent s) fault → Refused 0 old new p fault
 sends_refused old mid new p l dest share n s sent fault lt a b =
     let at = send_at l dest share sent s in
     let next = λ (k : ℕ). send_shards l dest share (sent + k) (s + 1) (n - (s + 1)) in
     let e : sent ≡ 0 + sent = omega arith in
-    let a' = subst (λ q. Stands old mid p q sent) (sends_next l dest share sent n s lt) a in
+    let a' = subst (λ q. HasAppended old mid p q sent) (sends_next l dest share sent n s lt) a in
     refused_on 0 old mid new p (and_ok at next) sent fault a'
     (subst (λ k. Refused k mid new (and_ok at next) fault) e
     (refused_then sent mid new at next fault b))
@@ -230,8 +230,8 @@ sends_refused old mid new p l dest share n s sent fault lt a b =
 -- all shards have their shares
 pub sends_end : (old new : Writer) (p : Course (Result ℕ SiteFault)) (l : Layout)
     (dest : ByteList) (share : ℕ → List Kind) (n s sent : ℕ) → n ≤ s
-    → Stands old new p (send_shards l dest share sent s (n - s)) sent
-    → Stands old new p (ends (Ok sent)) sent
+    → HasAppended old new p (send_shards l dest share sent s (n - s)) sent
+    → HasAppended old new p (ends (Ok sent)) sent
 sends_end old new p l dest share n s sent le a =
     let e : n - s ≡ 0 = omega arith in
-    subst (λ x. Stands old new p (send_shards l dest share sent s x) sent) e a
+    subst (λ x. HasAppended old new p (send_shards l dest share sent s x) sent) e a

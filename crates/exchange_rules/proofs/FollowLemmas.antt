@@ -3,7 +3,7 @@ use Rattle.std.proofs.Common.{◌≡◌, ◌≢◌, ℕ, ◌+◌, ◌≤◌, Lis
 use Rattle.std.specs.List.{AllByRecursion}
 use Rattle.shard_versions.specs.declared.cut.CutMark.{CutMark}
 use Rattle.shard_versions.specs.declared.cut.OwnMark.{OwnMark}
-use Rattle.exchange_rules.specs.Cells.{Log, Deed, author_of}
+use Rattle.exchange_rules.specs.Cells.{Log, Payload, author_of}
 use Rattle.exchange_rules.specs.Courses.{Course, ends, looks, makes, and_then}
 use Rattle.exchange_rules.specs.Acts.{Act, a_look, a_step, IsLook, IsOwn, had_after}
 use Rattle.exchange_rules.specs.Following.{IsNext, rest_after, Follows, Grows}
@@ -25,13 +25,13 @@ look_still me s t had c m g l =
     }
 
 -- the cell that an own mark names is the step's
-pub own_within : (me : ℕ) (s : List Log) (had : List ℕ) (c : ℕ) (step : List Deed) (o : OwnMark)
+pub own_within : (me : ℕ) (s : List Log) (had : List ℕ) (c : ℕ) (step : List Payload) (o : OwnMark)
     → IsOwn me s had c step o → o.from + o.count ≤ length (get_or s o.cell [])
 own_within me s had c step o l =
     subst (λ x. o.from + o.count ≤ length (get_or s x [])) (sym l.cell_is) l.within
 
 -- so is a step
-step_still : (me : ℕ) (s t : List Log) (had : List ℕ) (c : ℕ) (step : List Deed) (o : OwnMark)
+step_still : (me : ℕ) (s t : List Log) (had : List ℕ) (c : ℕ) (step : List Payload) (o : OwnMark)
     → Grows s t → IsOwn me s had c step o → IsOwn me t had c step o
 step_still me s t had c step o g l = record {
   cell_is = l.cell_is;
@@ -40,7 +40,7 @@ step_still me s t had c step o g l = record {
   count = l.count;
   within = length_still (get_or s c []) (get_or t c []) (o.from + o.count) (grows_at s t g c)
       l.within;
-  stands = own_still s t g o (own_within me s had c step o l) ∙ l.stands;
+  appended = own_still s t g o (own_within me s had c step o l) ∙ l.appended;
 }
 
 -- what the course does next stays
@@ -85,12 +85,14 @@ follows_join me s had p [] q mid later r end a b =
     subst (λ h. Follows me s h p later r end) a.1
     (subst (λ x. Follows me s mid x later r end) a.0 b)
 follows_join me s had p (act ∷ acts) q mid later r end a b =
-    let on = follows_join me s (had_after had act) (rest_after s p act) acts q mid later r end in
+    let on = follows_join me s (had_after had act)
+    (rest_after s p act) acts q mid later r end in
     (a.0, on a.1 b)
 
 -- what a course does next, a longer one does next
 next_then : {A B : Type 0} (me : ℕ) (s : List Log) (had : List ℕ) (p : Course A)
-    (k : A → Course B) (act : Act) → IsNext me s had p act → IsNext me s had (and_then p k) act
+    (k : A → Course B) (act : Act) → IsNext me s had p act
+    → IsNext me s had (and_then p k) act
 next_then me s had (ends a) k act n = absurd n
 next_then me s had (looks c f) k (a_look m) n = n
 next_then me s had (looks c f) k (a_step o) n = absurd n
@@ -110,7 +112,8 @@ rest_then me s had (makes c step p) k (a_step o) n = refl
 -- acts that follow a course follow it before any other
 pub follows_then : {A B : Type 0} (me : ℕ) (s : List Log) (had : List ℕ) (p : Course A)
     (k : A → Course B) (acts : List Act) (q : Course A) (end : List ℕ)
-    → Follows me s had p acts q end → Follows me s had (and_then p k) acts (and_then q k) end
+    → Follows me s had p acts q end
+    → Follows me s had (and_then p k) acts (and_then q k) end
 follows_then me s had p k [] q end f = (ap (λ x. and_then x k) f.0, f.1)
 follows_then me s had p k (act ∷ acts) q end f =
     let after = had_after had act in

@@ -2,7 +2,7 @@ pub mod GrowthLemmas
 pub mod ToldLemmas
 pub mod FollowLemmas
 pub mod ReachLemmas
-pub mod StandLemmas
+pub mod AppendedLemmas
 pub mod PrimitiveLemmas
 pub mod AloneLemmas
 pub mod CountLemmas

@@ -17,8 +17,8 @@ use Rattle.exchange_rules.specs.Courses.{Course, ends, looks, makes, and_then, u
 use Rattle.exchange_rules.specs.Acts.{Act, a_look, a_step, had_after}
 use Rattle.exchange_rules.specs.Following.{rest_after, Follows}
 use Rattle.exchange_rules.specs.Looking.{LooksFirst, IsBehind, AreBehind}
-use Rattle.exchange_rules.specs.Steps.{closed, is_full, fitting, write_course, settle_unless}
-use Rattle.exchange_rules.specs.Rows.{Layout, each_shard, write_at, settle_at, shares_of, writes_course, settle_all, finish_course, part_of, cut_shards, cut_course}
+use Rattle.exchange_rules.specs.Steps.{closed, is_full, fitting, write_course, commit_unless}
+use Rattle.exchange_rules.specs.Rows.{Layout, each_shard, write_at, commit_at, shares_of, writes_course, commit_shards, finish_course, part_of, cut_shards, cut_course}
 use Rattle.exchange_rules.specs.declared.fault.SiteFault.{SiteFault}
 
 -- the last look was at this cell, and shows all that was seen of it
@@ -105,10 +105,10 @@ write_first limit cell (k ∷ ks) refusal =
     λ log. fitting_first limit cell (k ∷ ks) refusal (history_in log)
 
 -- so does a Mark
-settle_first : (limit cell writes : ℕ) (refusal : SiteFault)
-    → LooksFirst None (settle_unless limit cell writes refusal)
-settle_first limit cell (suc writes) refusal = tt
-settle_first limit cell zero refusal =
+commit_first : (limit cell writes : ℕ) (refusal : SiteFault)
+    → LooksFirst None (commit_unless limit cell writes refusal)
+commit_first limit cell (suc writes) refusal = tt
+commit_first limit cell zero refusal =
     λ log. either (Some cell) (is_pending (history_in log)) _ _
     (fitting_first limit cell (Mark ∷ []) refusal (history_in log)) tt
 
@@ -121,18 +121,18 @@ each_first at shard (suc left) k =
     (λ _. each_first at (shard + 1) left k)
 
 -- so do the Marks of a commit
-pub settle_all_first : (l : Layout) (collection : ByteList) (written : ℕ → ℕ) (stand : ℕ)
-    → LooksFirst None (settle_all l collection written stand)
-settle_all_first l collection written stand =
-    each_first (settle_at l collection written stand) 0 (shards_of l.names collection)
-    (λ shard. settle_first l.limit (cell_of l.names collection shard) (written shard) _)
+pub commit_shards_first : (l : Layout) (collection : ByteList) (written : ℕ → ℕ) (stand : ℕ)
+    → LooksFirst None (commit_shards l collection written stand)
+commit_shards_first l collection written stand =
+    each_first (commit_at l collection written stand) 0 (shards_of l.names collection)
+    (λ shard. commit_first l.limit (cell_of l.names collection shard) (written shard) _)
 
 -- and what a commit does after writes
 pub finish_first : (l : Layout) (collection : ByteList) (share : ℕ → List Kind) (writes : ℕ)
     (commit : Bool) → LooksFirst None (finish_course l collection share writes commit)
 finish_first l collection share writes false = tt
 finish_first l collection share writes true =
-    settle_all_first l collection (λ shard. length (share shard)) writes
+    commit_shards_first l collection (λ shard. length (share shard)) writes
 
 -- and the writes
 pub writes_first : (l : Layout) (collection : ByteList) (share : ℕ → List Kind) (commit : Bool)

@@ -62,7 +62,8 @@ unfoldable pub reaches_join : {A : Type 0} (old mid new : Writer) (p q r : Cours
 reaches_join old mid new p q r a b =
     let first = follows_still old.me mid.seen new.seen (counts old.seen) p a.acts q
     (counts mid.seen) b.grown a.followed in
-    let second = subst (λ me. Follows me new.seen (counts mid.seen) q b.acts r (counts new.seen))
+    let second = subst (λ me. Follows me new.seen (counts mid.seen) q b.acts r
+    (counts new.seen))
     a.same b.followed in
     record {
       same = b.same ∙ a.same;
@@ -100,14 +101,16 @@ reaches_then old new p q k a = record {
 
 -- what was appended by acts that follow a course stays as logs grow
 pub owns_still : {A : Type 0} (me : ℕ) (s t : List Log) (had : List ℕ) (p : Course A)
-    (acts : List Act) (q : Course A) (end : List ℕ) → Grows s t → Follows me s had p acts q end
+    (acts : List Act) (q : Course A) (end : List ℕ) → Grows s t
+    → Follows me s had p acts q end
     → at_owns t (own_of acts) ≡ at_owns s (own_of acts)
 owns_still me s t had p [] q end g f = refl
 owns_still me s t had (ends a) (act ∷ acts) q end g f = absurd f.0
 owns_still me s t had (looks c see) (a_step o ∷ acts) q end g f = absurd f.0
 owns_still me s t had (makes c step p) (a_look m ∷ acts) q end g f = absurd f.0
 owns_still me s t had (looks c see) (a_look m ∷ acts) q end g f =
-    owns_still me s t (had_after had (a_look m)) (rest_after s (looks c see) (a_look m)) acts q end
+    owns_still me s t (had_after had (a_look m))
+    (rest_after s (looks c see) (a_look m)) acts q end
     g f.1
 owns_still me s t had (makes c step p) (a_step o ∷ acts) q end g f =
     ap (λ x. x ++ at_owns t (own_of acts))

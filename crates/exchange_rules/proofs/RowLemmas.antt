@@ -20,7 +20,7 @@ use Rattle.exchange_rules.specs.Rows.{Layout, finish_course, shares_of, writes_c
 use Rattle.exchange_rules.specs.Steps.{closed, fitting}
 use Rattle.exchange_rules.specs.declared.batch.Sent.{Sent}
 use Rattle.exchange_rules.specs.declared.fault.SiteFault.{SiteFault}
-use Rattle.exchange_rules.proofs.LookingLemmas.{cut_first, either, finish_first, fitting_first, go_on_first, ok_first, settle_all_first, then_first, writes_first}
+use Rattle.exchange_rules.proofs.LookingLemmas.{cut_first, either, finish_first, fitting_first, go_on_first, ok_first, commit_shards_first, then_first, writes_first}
 
 -- what is admitted, right after a look at its cell
 admitted_first : (limit cell : ℕ) (refusal : SiteFault) (h : History) (ks : List Kind)
@@ -66,7 +66,7 @@ rows_first = record {
       ok_first (writes_course l collection share commit) _ (writes_first l collection share commit)
       (λ _. ok_first (finish_course l collection share (length writes) commit) _
       (finish_first l collection share (length writes) commit) (λ _. tt));
-  commit = λ l collection. settle_all_first l collection (λ _. 0) 0;
+  commit = λ l collection. commit_shards_first l collection (λ _. 0) 0;
   cut = λ l collections. cut_first l.names [] collections;
   send = λ l dest src batch.
       let n = shards_of l.names dest in

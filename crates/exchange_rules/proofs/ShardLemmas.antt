@@ -9,11 +9,11 @@ use Rattle.topic_book.specs.Fitness.{shards_of}
 use Rattle.exchange_rules.specs.Cells.{Log, history_in}
 use Rattle.exchange_rules.specs.Courses.{Course, ends, looks, and_then, and_ok}
 use Rattle.exchange_rules.specs.Following.{Writer}
-use Rattle.exchange_rules.specs.Calls.{Stands, Refused, Passed, Stopped}
+use Rattle.exchange_rules.specs.Calls.{HasAppended, Refused, Passed, Stopped}
 use Rattle.exchange_rules.specs.Primitives.{LooksAt}
 use Rattle.exchange_rules.specs.Rows.{Layout, HasCell, each_shard, part_of, cut_shards, cut_course}
 use Rattle.exchange_rules.specs.declared.fault.SiteFault.{SiteFault}
-use Rattle.exchange_rules.proofs.StandLemmas.{stands_join, stands_on, stands_then, stands_ok, refused_on, refused_then, look_stopped, stopped_then}
+use Rattle.exchange_rules.proofs.AppendedLemmas.{appended_join, appended_on, appended_then, appended_ok, refused_on, refused_then, look_stopped, stopped_then}
 
 -- what is left, and one more that is done
 one_less : (n s : ℕ) → s < n → n - s ≡ suc (n - (s + 1))
@@ -29,35 +29,35 @@ each_next : {E : Type 0} (at : ℕ → Course (Result (Unit {0}) E)) (n s : ℕ)
 each_next at n s lt = ap (each_shard at s) (one_less n s lt)
 
 -- one more shard is done
-pub each_stands : (old mid new : Writer) (p : Course (Result (Unit {0}) SiteFault))
+pub each_appended : (old mid new : Writer) (p : Course (Result (Unit {0}) SiteFault))
     (at : ℕ → Course (Result (Unit {0}) SiteFault)) (n s m k : ℕ) (done : Unit {0}) → s < n
-    → Stands old mid p (each_shard at s (n - s)) m
+    → HasAppended old mid p (each_shard at s (n - s)) m
     → Passed m mid new (at s) k (Ok done)
-    → Stands old new p (each_shard at (s + 1) (n - (s + 1))) (m + k)
-each_stands old mid new p at n s m k done lt a b =
+    → HasAppended old new p (each_shard at (s + 1) (n - (s + 1))) (m + k)
+each_appended old mid new p at n s m k done lt a b =
     let rest = each_shard at (s + 1) (n - (s + 1)) in
-    let a' = subst (λ q. Stands old mid p q m) (each_next at n s lt) a in
-    stands_join old mid new p (and_ok (at s) (λ _. rest)) rest m k a'
-    (stands_ok mid new (at s) done (λ _. rest) k b)
+    let a' = subst (λ q. HasAppended old mid p q m) (each_next at n s lt) a in
+    appended_join old mid new p (and_ok (at s) (λ _. rest)) rest m k a'
+    (appended_ok mid new (at s) done (λ _. rest) k b)
 
 -- or is refused
 pub each_refused : (before : ℕ) (old mid new : Writer) (p : Course (Result (Unit {0}) SiteFault))
     (at : ℕ → Course (Result (Unit {0}) SiteFault)) (n s m : ℕ) (fault : SiteFault) → s < n
-    → Stands old mid p (each_shard at s (n - s)) m → Refused (before + m) mid new (at s) fault
+    → HasAppended old mid p (each_shard at s (n - s)) m → Refused (before + m) mid new (at s) fault
     → Refused before old new p fault
 each_refused before old mid new p at n s m fault lt a b =
     let rest = each_shard at (s + 1) (n - (s + 1)) in
-    let a' = subst (λ q. Stands old mid p q m) (each_next at n s lt) a in
+    let a' = subst (λ q. HasAppended old mid p q m) (each_next at n s lt) a in
     refused_on before old mid new p (and_ok (at s) (λ _. rest)) m fault a'
     (refused_then (before + m) mid new (at s) (λ _. rest) fault b)
 
 -- all shards are done
 pub each_end : (old new : Writer) (p : Course (Result (Unit {0}) SiteFault))
     (at : ℕ → Course (Result (Unit {0}) SiteFault)) (n s m : ℕ) → n ≤ s
-    → Stands old new p (each_shard at s (n - s)) m → Stands old new p (ends (Ok tt)) m
+    → HasAppended old new p (each_shard at s (n - s)) m → HasAppended old new p (ends (Ok tt)) m
 each_end old new p at n s m le a =
     let e : n - s ≡ 0 = omega arith in
-    subst (λ x. Stands old new p (each_shard at s x) m) e a
+    subst (λ x. HasAppended old new p (each_shard at s x) m) e a
 
 -- what is left of a cut begins with the next shard
 cut_next : (names : List NameShards) (c : ByteList) (n s : ℕ) (cut : List CutPart) → s < n
@@ -67,58 +67,59 @@ cut_next : (names : List NameShards) (c : ByteList) (n s : ℕ) (cut : List CutP
 cut_next names c n s cut lt = ap (λ x. cut_shards names c s x cut) (one_less n s lt)
 
 -- one more shard is in the cut
-pub cut_stands : (old mid new : Writer) (p : Course (List CutPart)) (names : List NameShards)
+pub cut_appended : (old mid new : Writer) (p : Course (List CutPart)) (names : List NameShards)
     (c : ByteList) (n s : ℕ) (cut cut' : List CutPart) → s < n
-    → Stands old mid p (cut_shards names c s (n - s) cut) 0
-    → Stands mid new
+    → HasAppended old mid p (cut_shards names c s (n - s) cut) 0
+    → HasAppended mid new
     (looks (cell_of names c s) (λ log. ends (cut ++ part_of c s (history_in log) ∷ [])))
     (ends cut') 0
-    → Stands old new p (cut_shards names c (s + 1) (n - (s + 1)) cut') 0
-cut_stands old mid new p names c n s cut cut' lt a b =
+    → HasAppended old new p (cut_shards names c (s + 1) (n - (s + 1)) cut') 0
+cut_appended old mid new p names c n s cut cut' lt a b =
     let look = looks (cell_of names c s) (λ log. ends (cut ++ part_of c s (history_in log) ∷ [])) in
     let next = λ (x : List CutPart). cut_shards names c (s + 1) (n - (s + 1)) x in
-    let a' = subst (λ q. Stands old mid p q 0) (cut_next names c n s cut lt) a in
-    stands_on old mid new p (and_then look next) (next cut') 0 a'
-    (stands_then mid new look (ends cut') next 0 b)
+    let a' = subst (λ q. HasAppended old mid p q 0) (cut_next names c n s cut lt) a in
+    appended_on old mid new p (and_then look next) (next cut') 0 a'
+    (appended_then mid new look (ends cut') next 0 b)
 
 -- or memory is wanting for it
 pub cut_stopped : (old mid new : Writer) (p : Course (List CutPart)) (names : List NameShards)
     (c : ByteList) (n s : ℕ) (cut : List CutPart) (fault : SiteFault) → s < n
-    → Stands old mid p (cut_shards names c s (n - s) cut) 0
+    → HasAppended old mid p (cut_shards names c s (n - s) cut) 0
     → Stopped mid new
     (looks (cell_of names c s) (λ log. ends (cut ++ part_of c s (history_in log) ∷ []))) fault
     → Stopped old new p fault
 cut_stopped old mid new p names c n s cut fault lt a b =
     let look = looks (cell_of names c s) (λ log. ends (cut ++ part_of c s (history_in log) ∷ [])) in
     let next = λ (x : List CutPart). cut_shards names c (s + 1) (n - (s + 1)) x in
-    let a' = subst (λ q. Stands old mid p q 0) (cut_next names c n s cut lt) a in
+    let a' = subst (λ q. HasAppended old mid p q 0) (cut_next names c n s cut lt) a in
     look_stopped old mid new p (and_then look next) fault a'
     (stopped_then mid new look next fault b)
 
 -- all shards of the collection are in the cut
 pub cut_end : (old new : Writer) (p : Course (List CutPart)) (names : List NameShards)
     (c : ByteList) (n s : ℕ) (cut : List CutPart) → n ≤ s
-    → Stands old new p (cut_shards names c s (n - s) cut) 0 → Stands old new p (ends cut) 0
+    → HasAppended old new p (cut_shards names c s (n - s) cut) 0
+    → HasAppended old new p (ends cut) 0
 cut_end old new p names c n s cut le a =
     let e : n - s ≡ 0 = omega arith in
-    subst (λ x. Stands old new p (cut_shards names c s x cut) 0) e a
+    subst (λ x. HasAppended old new p (cut_shards names c s x cut) 0) e a
 
 -- one more collection is in the cut
-pub cuts_stand : (old mid new : Writer) (p : Course (List CutPart)) (names : List NameShards)
+pub cuts_appended : (old mid new : Writer) (p : Course (List CutPart)) (names : List NameShards)
     (c : ByteList) (collections : List ByteList) (cut cut' : List CutPart)
-    → Stands old mid p (cut_course names cut (c ∷ collections)) 0
-    → Stands mid new (cut_shards names c 0 (shards_of names c) cut) (ends cut') 0
-    → Stands old new p (cut_course names cut' collections) 0
-cuts_stand old mid new p names c collections cut cut' a b =
+    → HasAppended old mid p (cut_course names cut (c ∷ collections)) 0
+    → HasAppended mid new (cut_shards names c 0 (shards_of names c) cut) (ends cut') 0
+    → HasAppended old new p (cut_course names cut' collections) 0
+cuts_appended old mid new p names c collections cut cut' a b =
     let part = cut_shards names c 0 (shards_of names c) cut in
     let next = λ (x : List CutPart). cut_course names x collections in
-    stands_on old mid new p (and_then part next) (next cut') 0 a
-    (stands_then mid new part (ends cut') next 0 b)
+    appended_on old mid new p (and_then part next) (next cut') 0 a
+    (appended_then mid new part (ends cut') next 0 b)
 
 -- or memory is wanting for it
 pub cuts_stopped : (old mid new : Writer) (p : Course (List CutPart)) (names : List NameShards)
     (c : ByteList) (collections : List ByteList) (cut : List CutPart) (fault : SiteFault)
-    → Stands old mid p (cut_course names cut (c ∷ collections)) 0
+    → HasAppended old mid p (cut_course names cut (c ∷ collections)) 0
     → Stopped mid new (cut_shards names c 0 (shards_of names c) cut) fault
     → Stopped old new p fault
 cuts_stopped old mid new p names c collections cut fault a b =

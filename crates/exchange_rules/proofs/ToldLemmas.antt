@@ -83,5 +83,6 @@ pub follows_looked : {A : Type 0} (me : ℕ) (seen : List Log) (had : List ℕ) 
     → Follows me seen had p acts q end
     → AreBehind None acts × AreLookedAt (marks_of acts) (own_of acts)
 follows_looked me seen had p acts q end first f =
-    let b : AreBehind None acts = follows_behind me seen had p acts q end None None first tt f in
+    let b : AreBehind None acts =
+    follows_behind me seen had p acts q end None None first tt f in
     (b, behind_looked None acts b)

@@ -1,9 +1,9 @@
--- What a writer did at the cells, as its record tells it: looks and steps (own).
+-- A writer's acts to the cells, as its record has them: looks and steps (own).
 use Rattle.std.specs.Prelude.{ℕ, zero, suc, ◌+◌, ◌≡◌, ◌≢◌, ◌<◌, ◌≤◌, ◌==◌, List, [], ◌∷◌, ◌++◌, get_or, set, length, take, drop, count_by}
 use Rattle.std.specs.List.{AllByRecursion}
 use Rattle.shard_versions.specs.declared.cut.CutMark.{CutMark}
 use Rattle.shard_versions.specs.declared.cut.OwnMark.{OwnMark}
-use Rattle.exchange_rules.specs.Cells.{Log, Deed, author_of, signed_behind}
+use Rattle.exchange_rules.specs.Cells.{Log, Payload, author_of, signed_behind}
 
 -- a look, by its mark; a step, by its own mark
 pub data Act : Type 0 where
@@ -45,16 +45,16 @@ pub record IsLook (me : ℕ) (seen : List Log) (had : List ℕ) (cell : ℕ) (m 
   pub others : AllByRecursion (λ n. author_of n ≢ me)
       (between (get_or had cell 0) m.upto (get_or seen cell []))
 
--- this step at this cell, by a writer that had seen so many entries of each: it stands right
+-- this step at this cell, by a writer that had seen so many entries of each: it is right
 -- behind those, under the writer's number
-pub record IsOwn (me : ℕ) (seen : List Log) (had : List ℕ) (cell : ℕ) (step : List Deed)
+pub record IsOwn (me : ℕ) (seen : List Log) (had : List ℕ) (cell : ℕ) (step : List Payload)
     (o : OwnMark) : Type 0 where
   pub cell_is : o.cell ≡ cell
   pub known : cell < length had
   pub from : o.from ≡ get_or had cell 0
   pub count : o.count ≡ length step
   pub within : o.from + o.count ≤ length (get_or seen cell [])
-  pub stands : at_own seen o
+  pub appended : at_own seen o
       ≡ signed_behind me (take o.from (get_or seen o.cell [])) step
 
 -- how many entries of each cell the writer has seen after the act

@@ -1,7 +1,7 @@
 -- What a call says of its writer: it followed its course, or stopped for want of memory (own).
 use Rattle.std.specs.Prelude.{ℕ, ◌+◌, ◌≡◌, Bool, false, not, count_by, Result, Ok, Err}
 use Rattle.shard_versions.specs.Histories.{is_mark}
-use Rattle.exchange_rules.specs.Cells.{Noted}
+use Rattle.exchange_rules.specs.declared.log_entry.LogEntry.{LogEntry}
 use Rattle.exchange_rules.specs.Courses.{Course, ends}
 use Rattle.exchange_rules.specs.Acts.{own_of, at_owns}
 use Rattle.exchange_rules.specs.Following.{Writer, Reaches, Answers}
@@ -10,28 +10,28 @@ use Rattle.exchange_rules.specs.declared.fault.SiteFault.{SiteFault}
 use Rattle.exchange_rules.specs.declared.fault.SiteFault.TheVariants.{ShardFull, TopicBound, BookFull, OutOfMemory}
 
 -- whether the entry is a write of a shard
-abbrev pub is_write : Noted → Bool
+abbrev pub is_write : LogEntry → Bool
 is_write (logged.Shard e) = not (is_mark e.kind)
 is_write (logged.Book e) = false
 
 -- from old to new the writer followed the course down to this rest, and so many of the entries
 -- that it appended are writes
-pub record Stands {A : Type 0} (old new : Writer) (course rest : Course A) (writes : ℕ)
+pub record HasAppended {A : Type 0} (old new : Writer) (course rest : Course A) (writes : ℕ)
     : Type 0 where
   pub reached : Reaches old new course rest
   pub counted : writes ≡ count_by is_write (at_owns new.seen (own_of reached.acts))
 
--- a call stopped in its course for want of memory, when so many writes stood: those before the
--- call and those that it appended
+-- a call stopped in its course for want of memory, when so many writes were appended: those before
+-- the call and its own
 pub record IsStopped {A : Type 0} (before : ℕ) (old new : Writer) (course : Course A) (stand : ℕ)
     : Type 0 where
   pub rest : Course A
   pub writes : ℕ
-  pub stood : Stands old new course rest writes
+  pub stood : HasAppended old new course rest writes
   pub counted : stand ≡ before + writes
 
--- a call, before which so many writes stood, was refused as its course says, or stopped for want
--- of memory
+-- a call, before which so many writes were appended, was refused as its course says, or stopped for
+-- want of memory
 abbrev pub Refused : {A : Type 0} → ℕ → Writer → Writer → Course (Result A SiteFault) → SiteFault
     → Type 0
 Refused before old new course (ShardFull collection shard stand) =
@@ -40,17 +40,17 @@ Refused before old new course (TopicBound kept) = Answers old new course (Err (T
 Refused before old new course (BookFull topics) = Answers old new course (Err (BookFull topics))
 Refused before old new course (OutOfMemory stand) = IsStopped before old new course stand
 
--- a part of a call, before which so many writes stood, followed its course to this answer and
--- appended so many writes; or it was refused or stopped
+-- a part of a call, before which so many writes were appended, followed its course to this answer
+-- and appended so many writes; or it was refused or stopped
 abbrev pub Passed : {A : Type 0} → ℕ → Writer → Writer → Course (Result A SiteFault) → ℕ
     → Result A SiteFault → Type 0
-Passed before old new course writes (Ok a) = Stands old new course (ends (Ok a)) writes
+Passed before old new course writes (Ok a) = HasAppended old new course (ends (Ok a)) writes
 Passed before old new course writes (Err fault) = Refused before old new course fault
 
--- a part of a call whose answer is how many writes it appended, before which so many stood
+-- the same of a part whose answer is how many writes it appended
 abbrev pub PassedSent : ℕ → Writer → Writer → Course (Result ℕ SiteFault) → Result ℕ SiteFault
     → Type 0
-PassedSent before old new course (Ok n) = Stands old new course (ends (Ok n)) n
+PassedSent before old new course (Ok n) = HasAppended old new course (ends (Ok n)) n
 PassedSent before old new course (Err fault) = Refused before old new course fault
 
 -- a call followed its course to this answer, or stopped for want of memory
@@ -68,12 +68,12 @@ Stopped old new course (OutOfMemory stand) = IsStopped 0 old new course stand
 
 -- a call that only looks followed its course to this answer and appended no write, or stopped
 abbrev pub Completed : {A : Type 0} → Writer → Writer → Course A → Result A SiteFault → Type 0
-Completed old new course (Ok a) = Stands old new course (ends a) 0
+Completed old new course (Ok a) = HasAppended old new course (ends a) 0
 Completed old new course (Err fault) = Stopped old new course fault
 
--- the fault is this refusal, or want of memory where so many writes stand
-abbrev pub Tells : SiteFault → ℕ → SiteFault → Type 0
-Tells refusal stand (ShardFull collection shard n) = ShardFull collection shard n ≡ refusal
-Tells refusal stand (TopicBound kept) = TopicBound kept ≡ refusal
-Tells refusal stand (BookFull topics) = BookFull topics ≡ refusal
-Tells refusal stand (OutOfMemory n) = n ≡ stand
+-- the fault is this refusal, or want of memory after so many writes
+abbrev pub IsFaultFor : SiteFault → ℕ → SiteFault → Type 0
+IsFaultFor refusal stand (ShardFull collection shard n) = ShardFull collection shard n ≡ refusal
+IsFaultFor refusal stand (TopicBound kept) = TopicBound kept ≡ refusal
+IsFaultFor refusal stand (BookFull topics) = BookFull topics ≡ refusal
+IsFaultFor refusal stand (OutOfMemory n) = n ≡ stand

@@ -1,13 +1,13 @@
 -- What a request does, as one small program of looks at cells and of steps that it appends (own).
 use Rattle.std.specs.Prelude.{ℕ, List, [], ◌++◌, get_or, set, Result, Ok, Err}
-use Rattle.exchange_rules.specs.Cells.{Log, Deed, signed_behind}
+use Rattle.exchange_rules.specs.Cells.{Log, Payload, signed_behind}
 
 -- a course ends with its answer, or looks at a cell and goes on by what it sees, or appends a step
 -- to a cell and goes on
 pub data Course (A : Type 0) : Type 0 where
   ends : A → Course A
   looks : ℕ → (Log → Course A) → Course A
-  makes : ℕ → List Deed → Course A → Course A
+  makes : ℕ → List Payload → Course A → Course A
 
 -- the first course, and then the one that its answer leads to
 abbrev pub and_then : {A B : Type 0} → Course A → (A → Course B) → Course B
@@ -27,7 +27,7 @@ abbrev pub and_ok : {A B E : Type 0} → Course (Result A E) → (A → Course (
 and_ok course next = and_then course (unless_refused next)
 
 -- the logs with the step behind the cell's, under this writer's number
-abbrev pub appended : ℕ → List Log → ℕ → List Deed → List Log
+abbrev pub appended : ℕ → List Log → ℕ → List Payload → List Log
 appended me logs cell step =
     set logs cell (get_or logs cell [] ++ signed_behind me (get_or logs cell []) step)
 

@@ -67,7 +67,7 @@ send_shards l dest share admitted shard (suc left) =
     send_shards l dest share (admitted + more) (shard + 1) left)
 
 -- a delivery of a batch: per shard of the destination to which an item routes, in order, one look,
--- and the step of those that it admits, closed by a Mark; the answer tells how many were admitted,
+-- and the step of those that it admits, closed by a Mark; the answer is how many were admitted,
 -- and how many not
 abbrev pub send_course : Layout → (dest src : ByteList) → List BatchItem
     → Course (Result Sent SiteFault)

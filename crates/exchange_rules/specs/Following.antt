@@ -22,8 +22,8 @@ rest_after seen (looks cell see) (a_step o) = looks cell see
 rest_after seen (makes cell step rest) (a_look m) = makes cell step rest
 rest_after seen (makes cell step rest) (a_step o) = rest
 
--- the acts follow the course down to this rest, by a writer that had seen so many entries of each
--- cell before and so many at the end
+-- the acts follow the course down to this rest, by a writer that had seen so many entries of
+-- each cell before and so many at the end
 abbrev pub Follows : {A : Type 0}
     → ℕ → List Log → List ℕ → Course A → List Act → Course A → List ℕ → Type 0
 Follows me seen had course [] rest end = (rest ≡ course) × (end ≡ had)
@@ -55,8 +55,9 @@ cleared w = record w { marks = []; own = [] }
 abbrev pub counts : List Log → List ℕ
 counts logs = map length logs
 
--- from old to new the writer did acts that follow the course down to this rest: its record gained
--- just their marks and own marks, and its count of looks at each cell rose by the number of marks
+-- from old to new the writer did acts that follow the course down to this rest: its record
+-- gained just their marks and own marks, and its count of looks at each cell rose by the number of
+-- marks
 pub record Reaches {A : Type 0} (old new : Writer) (course rest : Course A) : Type 0 where
   pub same : new.me ≡ old.me
   pub grown : Grows old.seen new.seen

@@ -41,7 +41,7 @@ OwnStepsAreTold A =
     → own_entries old.me new.seen (counts old.seen) (counts new.seen) cell
     ≡ steps_at cell new.seen (own_of r.acts)
 
--- a writer that followed a course which looks first: each step stands right behind what the look
+-- a writer that followed a course which looks first: each step is right behind what the look
 -- before it showed of its cell
 abbrev pub StepsAreLookedAt : Type 0 → Type 0
 StepsAreLookedAt A =

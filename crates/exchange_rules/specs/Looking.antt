@@ -1,4 +1,4 @@
--- Steps that stand right behind a look at their cell (own).
+-- Steps that are right behind a look at their cell (own).
 use Rattle.std.specs.Prelude.{ℕ, ◌≡◌, Bool, List, [], ◌∷◌, Option, Some, None}
 use Rattle.tuple_values.specs.Document.{ByteList}
 use Rattle.tuple_values.specs.declared.write.Write.{Write}

@@ -2,7 +2,7 @@
 use Rattle.std.specs.Prelude.{ℕ, ◌≡◌, ◌≢◌, true, List, [], ◌∷◌, ◌++◌, get_or, map, set, length}
 use Rattle.std.specs.List.{AllByRecursion}
 use Rattle.shard_versions.specs.declared.entry.Kind.{Kind}
-use Rattle.exchange_rules.specs.Cells.{Log, Deed, write, author_of}
+use Rattle.exchange_rules.specs.Cells.{Log, Payload, write, author_of}
 use Rattle.exchange_rules.specs.Courses.{appended}
 use Rattle.exchange_rules.specs.Acts.{one_more}
 use Rattle.exchange_rules.specs.Following.{Writer}
@@ -23,7 +23,7 @@ pub record LooksAt (old new : Writer) (cell : ℕ) : Type 0 where
   pub is : new ≡ looked_with old cell more
 
 -- the writer after it appended the step right behind what it has seen of the cell
-abbrev pub made : Writer → ℕ → List Deed → Writer
+abbrev pub made : Writer → ℕ → List Payload → Writer
 made w cell step = record w {
   seen = appended w.me w.seen cell step;
   own = w.own ++ record {
@@ -33,8 +33,8 @@ made w cell step = record w {
   } ∷ [];
 }
 
--- the writer after a delivery to the cell of which these entries were admitted: they stand right
--- behind what it has seen, and a Mark behind them; where there are none nothing stands
+-- the writer after a delivery to the cell of which these entries were admitted: they are appended
+-- right behind what it has seen, and a Mark behind them; where there are none nothing is
 abbrev pub delivered : Writer → ℕ → List Kind → Writer
 delivered w cell [] = w
 delivered w cell (k ∷ ks) = made w cell (map write (closed true (k ∷ ks)))

@@ -13,7 +13,7 @@ use Rattle.topic_book.specs.Fitness.{shards_of}
 use Rattle.exchange_rules.specs.Cells.{history_in}
 use Rattle.exchange_rules.specs.Courses.{Course, ends, looks, and_then, and_ok}
 use Rattle.exchange_rules.specs.Following.{Writer}
-use Rattle.exchange_rules.specs.Steps.{routed, closed, write_course, settle_unless}
+use Rattle.exchange_rules.specs.Steps.{routed, closed, write_course, commit_unless}
 use Rattle.exchange_rules.specs.declared.fault.SiteFault.{SiteFault}
 use Rattle.exchange_rules.specs.declared.fault.SiteFault.TheVariants.{ShardFull}
 
@@ -53,24 +53,24 @@ writes_course l collection share commit =
     each_shard (write_at l collection share commit) 0 (shards_of l.names collection)
 
 -- a Mark at the shard where a write is pending, unless this call wrote there, so many writes at
--- each shard; its refusal counts all that stand
-abbrev pub settle_at : Layout → ByteList → (ℕ → ℕ) → ℕ → ℕ
+-- each shard; its refusal counts all that were appended
+abbrev pub commit_at : Layout → ByteList → (ℕ → ℕ) → ℕ → ℕ
     → Course (Result (Unit {0}) SiteFault)
-settle_at l collection written stand shard =
-    settle_unless l.limit (cell_of l.names collection shard) (written shard)
+commit_at l collection written stand shard =
+    commit_unless l.limit (cell_of l.names collection shard) (written shard)
     (ShardFull collection shard stand)
 
 -- per shard that this call didn't write to, in order, one look, and a Mark where a write is
 -- pending at it
-abbrev pub settle_all : Layout → ByteList → (ℕ → ℕ) → ℕ → Course (Result (Unit {0}) SiteFault)
-settle_all l collection written stand =
-    each_shard (settle_at l collection written stand) 0 (shards_of l.names collection)
+abbrev pub commit_shards : Layout → ByteList → (ℕ → ℕ) → ℕ → Course (Result (Unit {0}) SiteFault)
+commit_shards l collection written stand =
+    each_shard (commit_at l collection written stand) 0 (shards_of l.names collection)
 
 -- what a commit does after so many writes
 abbrev pub finish_course : Layout → ByteList → (ℕ → List Kind) → ℕ → Bool
     → Course (Result (Unit {0}) SiteFault)
 finish_course l collection share writes true =
-    settle_all l collection (λ shard. length (share shard)) writes
+    commit_shards l collection (λ shard. length (share shard)) writes
 finish_course l collection share writes false = ends (Ok tt)
 
 -- the shares of the writes: of each shard those that route there
@@ -87,7 +87,7 @@ index_course l collection writes commit =
 
 -- a commit: per shard of the collection one look, and a Mark where a write is pending at it
 abbrev pub commit_course : Layout → ByteList → Course (Result (Unit {0}) SiteFault)
-commit_course l collection = settle_all l collection (λ _. 0) 0
+commit_course l collection = commit_shards l collection (λ _. 0) 0
 
 -- a shard as a look at this history shows it
 abbrev pub shown_of : History → Shown

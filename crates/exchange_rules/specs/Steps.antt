@@ -63,18 +63,19 @@ write_course limit at [] refusal = ends (Ok tt)
 write_course limit at (k ∷ ks) refusal = step_course limit at (k ∷ ks) refusal
 
 -- a Mark where a write is pending in this history
-abbrev pub settling : ℕ → ℕ → SiteFault → History → Course (Result (Unit {0}) SiteFault)
-settling limit at refusal h =
+abbrev pub commit_pending : ℕ → ℕ → SiteFault → History → Course (Result (Unit {0}) SiteFault)
+commit_pending limit at refusal h =
     if is_pending h then fitting limit at (Mark ∷ []) refusal h else ends (Ok tt)
 
 -- one look, and a Mark where a write is pending at it
-abbrev pub settle_course : ℕ → ℕ → SiteFault → Course (Result (Unit {0}) SiteFault)
-settle_course limit at refusal = looks at (λ log. settling limit at refusal (history_in log))
+abbrev pub commit_shard_course : ℕ → ℕ → SiteFault → Course (Result (Unit {0}) SiteFault)
+commit_shard_course limit at refusal =
+    looks at (λ log. commit_pending limit at refusal (history_in log))
 
 -- the same where so many writes are none
-abbrev pub settle_unless : ℕ → ℕ → ℕ → SiteFault → Course (Result (Unit {0}) SiteFault)
-settle_unless limit at zero refusal = settle_course limit at refusal
-settle_unless limit at (suc writes) refusal = ends (Ok tt)
+abbrev pub commit_unless : ℕ → ℕ → ℕ → SiteFault → Course (Result (Unit {0}) SiteFault)
+commit_unless limit at zero refusal = commit_shard_course limit at refusal
+commit_unless limit at (suc writes) refusal = ends (Ok tt)
 
 -- the kinds of these entries
 abbrev pub kinds_of : List Entry → List Kind

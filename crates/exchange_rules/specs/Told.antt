@@ -1,4 +1,4 @@
--- What acts that follow a course tell of the writer's own steps (own).
+-- What own marks record of acts that follow a course (own).
 use Rattle.std.specs.Prelude.{ℕ, ◌≡◌, ◌⊎◌, List, [], ◌∷◌, Some, None}
 use Rattle.std.specs.List.{AllByRecursion}
 use Rattle.shard_versions.specs.declared.cut.CutMark.{CutMark}
@@ -25,15 +25,16 @@ IsLookedAt (m ∷ marks) o = IsBehind (Some m) o ⊎ IsLookedAt marks o
 abbrev pub AreLookedAt : List CutMark → List OwnMark → Type 0
 AreLookedAt marks own = AllByRecursion (IsLookedAt marks) own
 
--- acts that follow a course: what the writer appended meanwhile is just what their own marks say
+-- acts that follow a course: what the writer appended meanwhile is just what their own marks
+-- say
 abbrev pub FollowingIsTold : Type 0 → Type 0
 FollowingIsTold A =
     (me : ℕ) (seen : List Log) (had : List ℕ) (course : Course A) (acts : List Act)
     (rest : Course A) (end : List ℕ) → Follows me seen had course acts rest end
     → AreTold me seen had end (own_of acts)
 
--- acts that follow a course which looks first: each own mark begins where the mark right before it,
--- which is of its cell, ends
+-- acts that follow a course which looks first: each own mark begins where the mark right before
+-- it, which is of its cell, ends
 abbrev pub FollowingIsLookedAt : Type 0 → Type 0
 FollowingIsLookedAt A =
     (me : ℕ) (seen : List Log) (had : List ℕ) (course : Course A) (acts : List Act)

@@ -1,7 +1,7 @@
 // What is delivered to a collection at once.
 use tuple_values::{Sequence, Tuple};
 
-/// A document to be delivered, as it is to stand there, with the version of the write of its
+/// A document to be delivered, as it is to be stored there, with the version of the write of its
 /// source that it comes from.
 #[derive(Debug, Drop)]
 pub struct BatchItem {
@@ -13,7 +13,7 @@ pub struct BatchItem {
 pub type Batch = Sequence<BatchItem>;
 
 /// How many items of a batch were admitted, and how many weren't, since as new a version or a
-/// newer one stood there.
+/// newer one was there.
 #[derive(Clone, Copy, Debug, PartialEq, Eq, Drop)]
 pub struct Sent {
     pub admitted: u64,

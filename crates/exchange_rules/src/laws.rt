@@ -7,7 +7,7 @@ pub fn following_stays<A>()
     ensures { FollowingStays A }
 {}
 
-/// What a writer did goes on from where it stands in its course.
+/// What a writer did goes on from where it is in its course.
 pub fn following_joins<A>()
     ensures { FollowingJoins A }
 {}
@@ -27,7 +27,7 @@ pub fn own_steps_are_told<A>()
     ensures { OwnStepsAreTold A }
 {}
 
-/// Each step of a course that looks first stands right behind what its look showed.
+/// Each step of a course that looks first is right behind what its look showed.
 pub fn steps_are_looked_at<A>()
     ensures { StepsAreLookedAt A }
 {}

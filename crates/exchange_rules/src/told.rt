@@ -1,4 +1,4 @@
-// What acts that follow a course tell of the writer's own steps.
+// What own marks record of acts that follow a course.
 ghost use Rattle.exchange_rules.specs.Told.{FollowingIsTold, FollowingIsLookedAt};
 
 /// What a writer appended while it followed a course is just what its own marks say.

@@ -36,7 +36,7 @@ slots-named last (e ∷ h) = go e.kind (λ v. slots-named v h)
 pub record IsLast (ss : List Slot) (p : ℕ × Doc) : Type 0 where
   pub doc : Doc
   pub is : p.1 ≡ with_version p.0 doc
-  pub stands : write_at p.0 ss ≡ Some (record { version = p.0; id = id_of doc; left = Some doc })
+  pub written : write_at p.0 ss ≡ Some (record { version = p.0; id = id_of doc; left = Some doc })
   pub last : (w : ℕ) (s : Slot) → write_at w ss ≡ Some s → s.id ≡ id_of doc → w ≤ p.0
 
 -- a write of an id shows that the id is written
@@ -70,14 +70,14 @@ last_later : (last : ℕ) (x : Slot) (ss : List Slot) → Ascend last (x ∷ ss)
 last_later last x ss a p above l = record {
   doc = l.doc;
   is = l.is;
-  stands = go (eqb x.version p.0) refl;
+  written = go (eqb x.version p.0) refl;
   last = λ w s h same. turn w s (eqb x.version w) refl h same;
 }
   where
     go : (b : Bool) → eqb x.version p.0 ≡ b
         → cond b (Some x) (write_at p.0 ss) ≡ Some (record { version = p.0; id = id_of l.doc; left = Some l.doc })
     go true t = absurd (omega (arith, eqb-true x.version p.0 t, above))
-    go false t = l.stands
+    go false t = l.written
 
     turn : (w : ℕ) (s : Slot) (b : Bool) → eqb x.version w ≡ b → cond b (Some x) (write_at w ss) ≡ Some s
         → s.id ≡ id_of l.doc → w ≤ p.0
@@ -109,7 +109,7 @@ last_here last x (Some doc) ss e a n = go (writes_id x.id ss) refl
       record {
         doc = doc;
         is = refl;
-        stands = rw self (ap Some whole);
+        written = rw self (ap Some whole);
         last = λ w s f same. turn t w s (eqb x.version w) refl f same;
       },
       tt,

@@ -25,7 +25,7 @@ use Rattle.topic_book.specs.declared.topic.Binding.{Binding}
 use Rattle.once_core.specs.declared.world.Histories.{Histories}
 use Rattle.once_core.specs.Cells.{history_at, cell_of, shard_history, home_history}
 use Rattle.once_core.specs.Law.{takes, IsFitAt, IsFitCell, IsDelivery, IsTrueKind, AreTrue, IsSent, AreSent, IsLaw}
-use Rattle.once_core.specs.Delivered.{is_only_from, IsOnlyFrom, Stands, NoneIsLost, IsDelivered}
+use Rattle.once_core.specs.Delivered.{is_only_from, IsOnlyFrom, IsApplied, NoneIsLost, IsDelivered}
 use Rattle.once_core.proofs.PlaceLemmas.{place-cell, sents-elsewhere, current-here}
 use Rattle.once_core.proofs.CurrentLemmas.{IsLast, id_with_version, write-committed, current-last, latest-contains}
 
@@ -244,12 +244,13 @@ sent_current src id w h only settles l =
     )
 
 -- a current document that was sent stands in the destination in its version
-stands : (names : List NameShards) (hs : Histories) → IsLaw names hs → (b : Binding) (dest : ByteList) (p : ℕ × Doc)
+applied : (names : List NameShards) (hs : Histories) → IsLaw names hs
+    → (b : Binding) (dest : ByteList) (p : ℕ × Doc)
     → IsLast (committed (home_history names hs b.src (id_of p.1))) p
     → IsOnlyFrom b.src (home_history names hs dest (id_of p.1)) → IsSent names hs b dest p
-    → Stands b.src p (home_history names hs dest (id_of p.1))
+    → IsApplied b.src p (home_history names hs dest (id_of p.1))
 unfolding AreTrue
-stands names hs law b dest p l only sent =
+applied names hs law b dest p l only sent =
     let id : ByteList = id_of p.1 in
     let cell : ℕ = cell_of names dest (shard_of (shards_of names dest) id) in
     let source : ℕ = cell_of names b.src (shard_of (shards_of names b.src) id) in
@@ -265,14 +266,16 @@ stands names hs law b dest p l only sent =
     let le : reached.last ≤ top (history_at hs source) =
     subst (λ i. reached.last ≤ top (home_history names hs b.src i)) d.same_id delivery.reached in
     let found : write_at reached.last (slots (history_at hs source)) ≡ Some slot =
-    subst (λ i. write_at reached.last (slots (home_history names hs b.src i)) ≡ Some slot) d.same_id delivery.stands in
+    subst (λ i. write_at reached.last (slots (home_history names hs b.src i)) ≡ Some slot) d.same_id
+    delivery.written in
     let kept = write-committed (history_at hs source) reached.last slot (law.versioned source) le found in
     let same_id : id_of d.doc ≡ id_of l.doc = d.same_id ∙ (ap id_of l.is ∙ id_with_version p.0 l.doc) in
     let bound : reached.last ≤ p.0 = l.last reached.last slot kept same_id in
     let same : reached.last ≡ p.0 = omega (arith, bound, reached.reached) in
     let at_p : write_at p.0 (committed (history_at hs source)) ≡ Some slot =
     subst (λ v. write_at v (committed (history_at hs source)) ≡ Some slot) same kept in
-    let both : Some (record { version = p.0; id = id_of l.doc; left = Some l.doc }) ≡ Some slot = sym l.stands ∙ at_p in
+    let both : Some (record { version = p.0; id = id_of l.doc; left = Some l.doc }) ≡ Some slot =
+    sym l.written ∙ at_p in
     let doc : l.doc ≡ delivery.doc = left_same (record { version = p.0; id = id_of l.doc; left = Some l.doc }) slot l.doc delivery.doc both refl refl in
     record {
       version = there.0;
@@ -332,11 +335,11 @@ none_lost names hs law key b dest bound to only shard below =
         → AllByRecursion (IsLast (committed (shard_history names hs b.src shard))) ps
         → AllByRecursion (λ p. takes b p.1 → slice_index b.init shard < p.0 → p.0 ≤ checkpoint key hs.book shard → IsSent names hs b dest p) ps
         → AllByRecursion (λ p. takes b p.1 → slice_index b.init shard < p.0 → p.0 ≤ checkpoint key hs.book shard
-        → Stands b.src p (home_history names hs dest (id_of p.1))) ps
+        → IsApplied b.src p (home_history names hs dest (id_of p.1))) ps
     all [] here last sent = tt
     all (p ∷ ps) here last sent = (
       λ t low high.
-          stands names hs law b dest p
+          applied names hs law b dest p
           (subst (λ s. IsLast (committed (shard_history names hs b.src s)) p) (sym here.0) last.0)
           (only (shard_of (shards_of names dest) (id_of p.1))
           (shard_within (shards_of names dest) (id_of p.1) (dest_known names hs.book key b dest law.fit_book.fit bound to)))

@@ -91,7 +91,7 @@ module _ (names : List NameShards) (hs : Histories) (cell : ℕ) (src : ByteList
   found-of d =
       ap (λ i. left_under i (write_at version (slots home))) named
       ∙ left-write version version (slots home) (id_of delivered) d.doc
-      (ap (λ h. write_at version (slots h)) home-is ∙ d.stands)
+      (ap (λ h. write_at version (slots h)) home-is ∙ d.written)
 
   -- where nothing is left under the id there is no such delivery
   pub delivery-none : None ≡ left_under id (write_at version (slots home)) → Decides false (IsDelivery names hs cell src version delivered)
@@ -112,7 +112,7 @@ module _ (names : List NameShards) (hs : Histories) (cell : ℕ) (src : ByteList
     λ is. record {
       doc = source;
       reached = omega (arith, t, ap top home-is);
-      stands = ap (λ h. write_at version (slots h)) (sym home-is)
+      written = ap (λ h. write_at version (slots h)) (sym home-is)
           ∙ write-left version (slots home) (id_of delivered) source
           (e ∙ ap (λ i. left_under i (write_at version (slots home))) named);
       is_from = d.0 is;

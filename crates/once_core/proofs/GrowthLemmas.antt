@@ -24,7 +24,7 @@ use Rattle.once_core.specs.declared.world.World.{World}
 use Rattle.once_core.specs.declared.world.Known.{Known}
 use Rattle.once_core.specs.Cells.{history_at, cell_of}
 use Rattle.once_core.specs.Law.{takes, IsDelivery, IsTrueKind, AreTrue, IsSent, AreSent, IsCovered}
-use Rattle.once_core.specs.Worlds.{grown, noted, seen_by, known_shards, known_upto}
+use Rattle.once_core.specs.Worlds.{grown, with_entry, seen_by, known_shards, known_upto}
 
 -- each list of the one begins the other's, in which versions rise
 pub record Grows (old new : Histories) : Type 0 where
@@ -72,7 +72,8 @@ module _ (names : List NameShards) (old new : Histories) (g : Grows old new) whe
   delivery_up cell src v doc d = record {
     doc = d.doc;
     reached = let up = top_up (home src (id_of doc)) in omega (arith, up, d.reached);
-    stands = write_up (home src (id_of doc)) v (record { version = v; id = id_of doc; left = Some d.doc }) d.stands;
+    written = write_up (home src (id_of doc)) v
+        (record { version = v; id = id_of doc; left = Some d.doc }) d.written;
     is_from = d.is_from;
   }
 
@@ -180,8 +181,9 @@ grown_grows hs cell es h versioned = record {
 }
 
 -- and as the book does
-pub noted_grows : (hs : Histories) (e : BookEntry) → ((cell : ℕ) → IsVersioned (history_at hs cell)) → Grows hs (noted hs e)
-noted_grows hs e versioned = record {
+pub with_entry_grows : (hs : Histories) (e : BookEntry)
+    → ((cell : ℕ) → IsVersioned (history_at hs cell)) → Grows hs (with_entry hs e)
+with_entry_grows hs e versioned = record {
   shards = λ cell. ([], sym (append-nil (history_at hs cell)));
   versioned = versioned;
   book = (e ∷ [], refl);

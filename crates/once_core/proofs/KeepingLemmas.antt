@@ -26,8 +26,8 @@ use Rattle.once_core.specs.declared.event.Event.TheVariants.{Write, Look, Send, 
 use Rattle.once_core.specs.Cells.{Place, place_of, cell_of, cells_in, history_at, shard_history}
 use Rattle.once_core.specs.Law.{IsFitAt, IsFitCell, IsReadableEntry, IsTrueKind, AreTrue, AreSent, IsCovered, IsLaw}
 use Rattle.once_core.specs.Allowed.{MayJoin, MayStore, IsAllowed}
-use Rattle.once_core.specs.Worlds.{AreAllowed, grown, noted, after_event, next, run, seen_by, actor_of, nothing_yet}
-use Rattle.once_core.proofs.GrowthLemmas.{Grows, top_up, true_up, sent_up, sent_join, sent_none, covered_up, covered_still, grown_here, grown_other, grown_grows, noted_grows, seen_grows}
+use Rattle.once_core.specs.Worlds.{AreAllowed, grown, with_entry, after_event, next, run, seen_by, actor_of, nothing_yet}
+use Rattle.once_core.proofs.GrowthLemmas.{Grows, top_up, true_up, sent_up, sent_join, sent_none, covered_up, covered_still, grown_here, grown_other, grown_grows, with_entry_grows, seen_grows}
 
 -- what may stand at a place may stand there together
 pub fit_append : (place : Option Place) (xs ys : List Entry) → IsFitAt place xs → IsFitAt place ys → IsFitAt place (xs ++ ys)
@@ -89,10 +89,12 @@ Covers names hs e key b shard =
     → IsCovered names hs b shard (shard_history names hs b.src shard) (checkpoint key (hs.book ++ e ∷ []) shard)
 
 -- an entry that may join the book keeps the law where each topic's checkpoints stay right
-pub law_noted : (names : List NameShards) (hs : Histories) (e : BookEntry) → IsLaw names hs → MayJoin names hs.book e
-    → ((key : TopicKey) (b : Binding) (shard : ℕ) → Covers names hs e key b shard) → IsLaw names (noted hs e)
-law_noted names hs e law may covers =
-    let g : Grows hs (noted hs e) = noted_grows hs e law.versioned in
+pub law_with_entry : (names : List NameShards) (hs : Histories) (e : BookEntry) → IsLaw names hs
+    → MayJoin names hs.book e
+    → ((key : TopicKey) (b : Binding) (shard : ℕ) → Covers names hs e key b shard)
+    → IsLaw names (with_entry hs e)
+law_with_entry names hs e law may covers =
+    let g : Grows hs (with_entry hs e) = with_entry_grows hs e law.versioned in
     record {
       fit = law.fit;
       versioned = law.versioned;
@@ -102,10 +104,10 @@ law_noted names hs e law may covers =
       };
       readable = each_append IsReadableEntry hs.book (e ∷ []) law.readable (may.readable, tt);
       settled = law.settled;
-      true_sents = λ c. true_up names hs (noted hs e) g c (history_at hs c) (law.true_sents c);
+      true_sents = λ c. true_up names hs (with_entry hs e) g c (history_at hs c) (law.true_sents c);
       rising = law.rising;
       covered = λ key b bound shard below.
-          covered_still names hs (noted hs e) g b shard (shard_history names hs b.src shard)
+          covered_still names hs (with_entry hs e) g b shard (shard_history names hs b.src shard)
           (checkpoint key (hs.book ++ e ∷ []) shard) (covers key b shard bound below);
     }
 
@@ -142,10 +144,12 @@ covers_bound names hs actor key b law none same c shard bound below =
 
 -- a Bind that may join the book keeps the law
 pub law_bind : (names : List NameShards) (hs : Histories) (actor : ℕ) (k : TopicKey) (b : Binding) → IsLaw names hs
-    → MayJoin names hs.book (book.Bind actor k b) → IsLaw names (noted hs (book.Bind actor k b))
+    → MayJoin names hs.book (book.Bind actor k b)
+    → IsLaw names (with_entry hs (book.Bind actor k b))
 unfolding binding_of checkpoint
 law_bind names hs actor k b law may =
-    law_noted names hs (book.Bind actor k b) law may (λ key c shard. go key c shard (same_key key k) refl)
+    law_with_entry names hs (book.Bind actor k b) law may
+    (λ key c shard. go key c shard (same_key key k) refl)
   where
     go : (key : TopicKey) (c : Binding) (shard : ℕ) (t : Bool) → same_key key k ≡ t → Covers names hs (book.Bind actor k b) key c shard
     go key c shard true e bound below =
@@ -221,10 +225,10 @@ store_joins names seen hs actor k u g law m =
 
 -- a Store that is allowed keeps the law
 pub law_store : (names : List NameShards) (seen hs : Histories) (actor : ℕ) (k : TopicKey) (u : List ℕ) → Grows seen hs
-    → IsLaw names hs → MayStore names seen k u → IsLaw names (noted hs (book.Store actor k u))
+    → IsLaw names hs → MayStore names seen k u → IsLaw names (with_entry hs (book.Store actor k u))
 unfolding binding_of checkpoint
 law_store names seen hs actor k u g law m =
-    law_noted names hs (book.Store actor k u) law (store_joins names seen hs actor k u g law m)
+    law_with_entry names hs (book.Store actor k u) law (store_joins names seen hs actor k u g law m)
     (λ key c shard. go key c shard (same_key key k) refl)
   where
     go : (key : TopicKey) (c : Binding) (shard : ℕ) (t : Bool) → same_key key k ≡ t → Covers names hs (book.Store actor k u) key c shard
@@ -263,7 +267,7 @@ law_event names seen hs (Send actor cell src step) g law a =
 law_event names seen hs (Bind actor k b) g law a = law_bind names hs actor k b law a
 law_event names seen hs (Store actor k u) g law a = go (raises k hs.book u)
   where
-    go : (t : Bool) → IsLaw names (cond t (noted hs (book.Store actor k u)) hs)
+    go : (t : Bool) → IsLaw names (cond t (with_entry hs (book.Store actor k u)) hs)
     go true = law_store names seen hs actor k u g law a
     go false = law
 law_event names seen hs (Forget actor) g law a = law

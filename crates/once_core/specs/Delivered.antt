@@ -30,8 +30,8 @@ abbrev pub IsOnlyFrom : ByteList → History → Type 0
 IsOnlyFrom src h = AllByRecursion (λ e. is_only_from src e.kind ≡ true) h
 
 -- a document that is current in the source, in its version there, is current in the destination's
--- history in that version: under its own version there stands a delivery of it
-pub record Stands (src : ByteList) (p : ℕ × Doc) (h : History) : Type 0 where
+-- history in that version: under its own version there is a delivery of it
+pub record IsApplied (src : ByteList) (p : ℕ × Doc) (h : History) : Type 0 where
   pub version : ℕ
   pub delivered : Doc
   pub doc : Doc
@@ -52,12 +52,12 @@ pub record ComesOnce (names : List NameShards) (hs : Histories) (src dest : Byte
       → IsRising (sents src id (shard_history names hs dest shard))
 
 -- each current document of the source's shard that the topic takes, above the initial checkpoint
--- and up to the stored one, stands in the destination in its version
+-- and up to the stored one, is applied in the destination in its version
 abbrev pub NoneIsLost : List NameShards → Histories → TopicKey → Binding → ByteList → ℕ → Type 0
 NoneIsLost names hs key b dest shard =
     AllByRecursion
     (λ p. takes b p.1 → slice_index b.init shard < p.0 → p.0 ≤ checkpoint key hs.book shard
-    → Stands b.src p (home_history names hs dest (id_of p.1)))
+    → IsApplied b.src p (home_history names hs dest (id_of p.1)))
     (current (shard_history names hs b.src shard))
 
 -- while nothing else writes its destination, a topic delivers each version at most once, rising

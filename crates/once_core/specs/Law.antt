@@ -22,12 +22,12 @@ use Rattle.topic_book.specs.declared.topic.BookEntry.TheVariants.{Bind, Store}
 use Rattle.once_core.specs.Cells.{Place, place_of, history_at, shard_history, home_history}
 use Rattle.once_core.specs.declared.world.Histories.{Histories}
 
--- the entries may stand at this place; where there is none, there is none of them
+-- the entries belong at this place; where there is none, there is none of them
 abbrev pub IsFitAt : Option Place → List Entry → Type 0
 IsFitAt None entries = entries ≡ []
 IsFitAt (Some place) entries = IsFit place.shards place.shard entries
 
--- the entries may stand in this cell
+-- the entries belong in this cell
 unfoldable pub IsFitCell : List NameShards → ℕ → List Entry → Type 0
 IsFitCell names cell entries = IsFitAt (place_of names cell) entries
 
@@ -45,7 +45,7 @@ pub record IsDelivery (names : List NameShards) (hs : Histories) (cell : ℕ) (s
     (version : ℕ) (delivered : Doc) : Type 0 where
   pub doc : Doc
   pub reached : version ≤ top (home_history names hs src (id_of delivered))
-  pub stands : write_at version (slots (home_history names hs src (id_of delivered)))
+  pub written : write_at version (slots (home_history names hs src (id_of delivered)))
       ≡ Some (record { version = version; id = id_of delivered; left = Some doc })
   pub is_from : IsFrom delivered src version doc
 

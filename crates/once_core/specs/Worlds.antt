@@ -22,8 +22,8 @@ unfoldable pub grown : Histories → ℕ → List Entry → Histories
 grown hs cell entries = record hs { shards = set hs.shards cell (history_at hs cell ++ entries) }
 
 -- the entry follows in the book
-abbrev pub noted : Histories → BookEntry → Histories
-noted hs e = record hs { book = hs.book ++ e ∷ [] }
+abbrev pub with_entry : Histories → BookEntry → Histories
+with_entry hs e = record hs { book = hs.book ++ e ∷ [] }
 
 -- the histories after the event
 abbrev pub after_event : Histories → Event → Histories
@@ -31,9 +31,9 @@ after_event hs (Write actor cell step) = grown hs cell step
 after_event hs (Look actor cell) = hs
 after_event hs (Send actor cell src step) =
     grown hs cell (marked actor (admitted (history_at hs cell) step))
-after_event hs (Bind actor key b) = noted hs (book.Bind actor key b)
+after_event hs (Bind actor key b) = with_entry hs (book.Bind actor key b)
 after_event hs (Store actor key upto) =
-    if raises key hs.book upto then noted hs (book.Store actor key upto) else hs
+    if raises key hs.book upto then with_entry hs (book.Store actor key upto) else hs
 after_event hs (Forget actor) = hs
 
 -- whether what is known is the actor's, and of this cell
@@ -109,7 +109,7 @@ abbrev pub AreAllowed : List NameShards → List Event → World → Type 0
 AreAllowed names [] w = Unit {0}
 AreAllowed names (e ∷ events) w = IsAllowedIn names w e × AreAllowed names events (next w e)
 
--- no entry stands anywhere, and nobody knows anything
+-- there is no entry anywhere, and nobody knows anything
 abbrev pub nothing_yet : List NameShards → World
 nothing_yet names = record {
   histories = record { shards = replicate (cells_in names) []; book = [] };

@@ -2,7 +2,7 @@
 ghost use Rattle.std.specs.Prelude.{◌≡◌, ◌++◌, [], IfOk, OnOk, get_or, set};
 ghost use Rattle.shard_versions.specs.Deliveries.{admitted, marked};
 ghost use Rattle.once_core.specs.Cells.{history_at};
-ghost use Rattle.once_core.specs.Worlds.{after_event, grown, noted};
+ghost use Rattle.once_core.specs.Worlds.{after_event, grown, with_entry};
 
 use crate::book::raises;
 use crate::cells::history_at;
@@ -54,8 +54,8 @@ fn extend(alloc: Global, history: &mut Step, entries: &[Entry]) -> Result<(), Me
 }
 
 // The entry follows in the book.
-fn note(histories: Histories, entry: BookEntry) -> Result<Histories, Memory>
-    ensures { IfOk result (λ hs. hs ≡ noted histories entry) }
+fn append_entry(histories: Histories, entry: BookEntry) -> Result<Histories, Memory>
+    ensures { IfOk result (λ hs. hs ≡ with_entry histories entry) }
 {
     let Histories { shards, mut book } = histories;
     book.push(entry)?;
@@ -100,7 +100,7 @@ pub(crate) fn histories_after(
         } => {
             let key = key.copy(alloc)?;
             let binding = binding.copy(alloc)?;
-            note(
+            append_entry(
                 histories,
                 BookEntry::Bind {
                     by: *actor,
@@ -115,7 +115,7 @@ pub(crate) fn histories_after(
             }
             let key = key.copy(alloc)?;
             let upto = upto.copy(alloc)?;
-            note(
+            append_entry(
                 histories,
                 BookEntry::Store {
                     by: *actor,

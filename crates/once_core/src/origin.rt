@@ -35,18 +35,18 @@ fn is_same(found: Option<&Value>, value: &Value) -> bool
     compare(found, Some(value)).is_eq()
 }
 
-// Whether the name is one of those by which a delivery tells where it comes from.
-fn tells_origin(name: &str) -> bool
+// Whether the name is one of those by which a delivery names where it comes from.
+fn is_origin_name(name: &str) -> bool
     ensures { result ≡ is_named name.now origin_names }
 {
     "_src_s" == name || "_src_version_l" == name
 }
 
-// Whether the field tells the origin, or is one of the source's document.
+// Whether the field names the origin, or is one of the source's document.
 fn is_carried(name: &str, value: &Value, source: &Tuple) -> bool
     ensures { Decides result (IsCarried source.now (name.now, datum_of value.now)) }
 {
-    tells_origin(name) || "_version_" != name && is_same(source.get(name), value)
+    is_origin_name(name) || "_version_" != name && is_same(source.get(name), value)
 }
 
 fn are_carried(delivered: &Tuple, source: &Tuple) -> bool

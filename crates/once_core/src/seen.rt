@@ -38,7 +38,7 @@ fn first_entries(entries: &[Entry], upto: u64) -> &[Entry]
     &entries[..count]
 }
 
-fn first_notes(entries: &[BookEntry], upto: u64) -> &[BookEntry]
+fn first_book_entries(entries: &[BookEntry], upto: u64) -> &[BookEntry]
     ensures { result.now ≡ take upto entries.now }
 {
     let count = entries.len().min(upto as usize);
@@ -84,6 +84,6 @@ impl<'a> Seen<'a> {
     {
         let cell = self.world.histories.shards.len() as u64;
         let upto = known_upto(self.world.known.as_slice(), self.actor, cell);
-        first_notes(self.world.histories.book.as_slice(), upto)
+        first_book_entries(self.world.histories.book.as_slice(), upto)
     }
 }

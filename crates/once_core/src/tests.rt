@@ -196,7 +196,7 @@ fn has(document: &Tuple, n: i64) -> bool {
 }
 
 // Whether the cell's history is what the row writes.
-fn stands(world: &World, cell: u32, rows: &[(u64, Plain)]) -> bool {
+fn has_entries(world: &World, cell: u32, rows: &[(u64, Plain)]) -> bool {
     let Some(history) = world.histories.shards.get(cell as usize) else {
         return false;
     };
@@ -235,8 +235,8 @@ fn core_rows(rt: HostRuntime) -> Result<(), Fail> {
 fn a_version_that_came_late_is_not_delivered(rt: HostRuntime) -> Result<(), Fail> {
     let alloc = rt.alloc();
     let world = replay_events(alloc, &names(alloc)?, &events(alloc, &LATE)?)?.world;
-    assert!(rt; stands(&world, C, &[(A, Put(1)), (A, Mark), (A, Put(2)), (A, Mark)]));
-    assert!(rt; stands(&world, D, &[(A, Sent(2, 2)), (A, Mark)]));
+    assert!(rt; has_entries(&world, C, &[(A, Put(1)), (A, Mark), (A, Put(2)), (A, Mark)]));
+    assert!(rt; has_entries(&world, D, &[(A, Sent(2, 2)), (A, Mark)]));
     assert_eq!(rt; upto(&world, B, C), 2);
     assert_eq!(rt; upto(&world, A, C), 4);
     assert_eq!(rt; upto(&world, B, D), 2);
@@ -265,11 +265,11 @@ fn a_checkpoint_is_stored_once(rt: HostRuntime) -> Result<(), Fail> {
 }
 
 #[test]
-fn nothing_stands_at_the_start(rt: HostRuntime) -> Result<(), Fail> {
+fn no_entry_at_the_start(rt: HostRuntime) -> Result<(), Fail> {
     let alloc = rt.alloc();
     let world = nothing_yet(alloc, names(alloc)?.as_slice())?;
     assert_eq!(rt; world.histories.shards.len(), 3);
-    assert!(rt; stands(&world, C, &[]));
+    assert!(rt; has_entries(&world, C, &[]));
     assert_eq!(rt; world.histories.book.len(), 0);
     law_holds();
     delivery_holds();

@@ -12,7 +12,7 @@ use std::alloc::Global;
 use topic_book::BookEntries;
 use tuple_values::{Memory, NameShards};
 
-/// No entry stands anywhere, and nobody knows anything.
+/// There is no entry anywhere, and nobody knows anything.
 pub fn nothing_yet(alloc: Global, names: &[NameShards]) -> Result<World, Memory>
     ensures { IfOk result (λ w. w ≡ nothing_yet names.now) }
 {

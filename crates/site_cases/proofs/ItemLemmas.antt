@@ -17,10 +17,10 @@ use Rattle.site_laws.specs.Duties.{IsItem}
 use Rattle.site_laws.specs.SiteCells.{histories_in}
 
 -- a committed write is one of the history's
-committed-stands : (h : History) (v : ℕ) (s : Slot) → write_at v (committed h) ≡ Some s
+committed-written : (h : History) (v : ℕ) (s : Slot) → write_at v (committed h) ≡ Some s
     → write_at v (slots h) ≡ Some s
 unfolding committed
-committed-stands h v s w =
+committed-written h v s w =
     let b = settled-begins h in
     subst (λ (x : History). write_at v (slots x) ≡ Some s) (sym b.1)
     (write-stays v s (settled h) b.0 w)
@@ -60,8 +60,8 @@ item-is names logs dest src shard k version s shown document is made routed stor
         doc = last.doc;
         reached = subst (λ x. version ≤ top x) (sym home)
             (subst (λ (x : Shown). version ≤ x.top) is made.reached);
-        stands = subst (λ x. write_at version (slots x) ≡ Some written) (sym home)
-            (committed-stands h version written stands);
+        written = subst (λ x. write_at version (slots x) ≡ Some written) (sym home)
+            (committed-written h version written there);
         is_from = from;
       };
     }
@@ -92,10 +92,10 @@ item-is names logs dest src shard k version s shown document is made routed stor
     written : Slot
     written = record { version = version; id = id_of document; left = Some last.doc }
 
-    stands : write_at version (committed h) ≡ Some written
-    stands =
+    there : write_at version (committed h) ≡ Some written
+    there =
         subst (λ v. write_at v (committed h)
         ≡ Some (record { version = v; id = id_of document; left = Some last.doc }))
         (sym made.version_is)
-        (last.stands
+        (last.written
         ∙ ap (λ i. Some (record { version = p.0; id = i; left = Some last.doc })) (sym same_id))

@@ -9,7 +9,7 @@ use Rattle.topic_book.specs.Books.{Book}
 use Rattle.topic_book.specs.Cells.{cells_in}
 use Rattle.topic_book.specs.declared.topic.BookEntry.{BookEntry}
 use Rattle.once_core.specs.Cells.{history_at}
-use Rattle.once_core.specs.Worlds.{grown, noted}
+use Rattle.once_core.specs.Worlds.{grown, with_entry}
 use Rattle.once_core.proofs.GrowthLemmas.{Grows}
 use Rattle.exchange_rules.specs.Cells.{Log, history_in, book_in}
 use Rattle.exchange_rules.specs.declared.log_entry.LogEntry.TheVariants as logged
@@ -118,11 +118,11 @@ grown-there names logs c more lt =
     λ i. record { shards = s i; book = b i }
 
 -- an entry of the book
-pub noted-there : (names : List NameShards) (logs : List Log) (e : BookEntry)
+pub with_entry-there : (names : List NameShards) (logs : List Log) (e : BookEntry)
     → cells_in names < length logs
     → histories_in names (with_more logs (cells_in names) (logged.Book e ∷ []))
-    ≡ noted (histories_in names logs) e
-noted-there names logs e lt =
+    ≡ with_entry (histories_in names logs) e
+with_entry-there names logs e lt =
     let n = cells_in names in
     let v = get_or logs n [] ++ logged.Book e ∷ [] in
     let s : shards_in n (set logs n v) ≡ shards_in n logs = shard-same n logs n v (omega arith) in

@@ -93,7 +93,7 @@ record AreItems (names : List NameShards) (hs : Histories) (cell shards shard : 
 moved : (names : List NameShards) (hs : Histories) (cell other : ℕ) (src : ByteList) (v : ℕ)
     (doc : Doc) → IsDelivery names hs cell src v doc → IsDelivery names hs other src v doc
 moved names hs cell other src v doc d =
-    record { doc = d.doc; reached = d.reached; stands = d.stands; is_from = d.is_from }
+    record { doc = d.doc; reached = d.reached; written = d.written; is_from = d.is_from }
 
 -- by one item after another
 share-items : (names : List NameShards) (seen : List Log) (dest src : ByteList)

@@ -11,17 +11,17 @@ use Rattle.topic_book.specs.declared.topic.BookEntry.TheVariants as book
 use Rattle.once_core.specs.Allowed.{IsStep, MayJoin}
 use Rattle.once_core.specs.Cells.{history_at}
 use Rattle.once_core.specs.Law.{IsLaw}
-use Rattle.once_core.specs.Worlds.{grown, noted}
+use Rattle.once_core.specs.Worlds.{grown, with_entry}
 use Rattle.once_core.specs.declared.event.Event.TheVariants.{Write, Send, Bind, Store}
 use Rattle.once_core.specs.declared.world.Histories.{Histories}
 use Rattle.once_core.proofs.KeepingLemmas.{law_event}
 use Rattle.exchange_rules.specs.Cells.{Log, history_in, book_in, log_of}
 use Rattle.exchange_rules.specs.declared.log_entry.LogEntry.TheVariants as logged
 use Rattle.exchange_rules.proofs.StepLemmas.{history_in-log_of}
-use Rattle.site_laws.specs.Duties.{MayWrite, MayDeliver, MayNote}
+use Rattle.site_laws.specs.Duties.{MayWrite, MayDeliver, MayAppendEntry}
 use Rattle.site_laws.specs.Laws.{HasSeen, with_more}
 use Rattle.site_laws.specs.SiteCells.{histories_in, IsLawful}
-use Rattle.site_laws.proofs.CellLemmas.{grown-there, noted-there, seen-grows, shard-at, shard-count}
+use Rattle.site_laws.proofs.CellLemmas.{grown-there, with_entry-there, seen-grows, shard-at, shard-count}
 
 -- a step that may be made over what was seen may be made where as many cells are
 step-there : (names : List NameShards) (seen logs : List Log) (me c : ℕ) (step : List Entry)
@@ -81,28 +81,29 @@ deliver-keeps names me logs seen c step law has lt may =
     (subst (λ h. IsLaw names (grown hs c (marked me (admitted h step)))) here after)
 
 -- an entry of the book keeps the law of histories
-note-law : (names : List NameShards) (me : ℕ) (logs seen : List Log) (e : BookEntry)
-    → IsLawful names logs → HasSeen seen logs (cells_in names) → MayNote names me seen e
-    → IsLaw names (noted (histories_in names logs) e)
-note-law names me logs seen (book.Bind by k b) law has may =
+entry-law : (names : List NameShards) (me : ℕ) (logs seen : List Log) (e : BookEntry)
+    → IsLawful names logs → HasSeen seen logs (cells_in names) → MayAppendEntry names me seen e
+    → IsLaw names (with_entry (histories_in names logs) e)
+entry-law names me logs seen (book.Bind by k b) law has may =
     let g = seen-grows names seen logs has.before in
     law_event names (histories_in names seen) (histories_in names logs) (Bind by k b) g law.law
     (subst (λ x. MayJoin names x (book.Bind by k b)) (ap book_in has.all) may.1)
-note-law names me logs seen (book.Store by k u) law has may =
+entry-law names me logs seen (book.Store by k u) law has may =
     let g = seen-grows names seen logs has.before in
     let hs = histories_in names logs in
     let up : raises k hs.book u ≡ true =
     subst (λ x. raises k x u ≡ true) (ap book_in has.all) may.1.1 in
-    let after : IsLaw names (cond (raises k hs.book u) (noted hs (book.Store by k u)) hs) =
+    let after : IsLaw names (cond (raises k hs.book u) (with_entry hs (book.Store by k u)) hs) =
     law_event names (histories_in names seen) hs (Store by k u) g law.law may.1.0 in
-    subst (λ t. IsLaw names (cond t (noted hs (book.Store by k u)) hs)) up after
+    subst (λ t. IsLaw names (cond t (with_entry hs (book.Store by k u)) hs)) up after
 
 -- an entry of the book keeps the law
-pub note-keeps : (names : List NameShards) (me : ℕ) (logs seen : List Log) (e : BookEntry)
-    → IsLawful names logs → HasSeen seen logs (cells_in names) → MayNote names me seen e
+pub entry-keeps : (names : List NameShards) (me : ℕ) (logs seen : List Log) (e : BookEntry)
+    → IsLawful names logs → HasSeen seen logs (cells_in names) → MayAppendEntry names me seen e
     → IsLawful names (with_more logs (cells_in names) (logged.Book e ∷ []))
-note-keeps names me logs seen e law has may =
+entry-keeps names me logs seen e law has may =
     let counted = law.counted in
-    lawful-of names logs (cells_in names) (logged.Book e ∷ []) (noted (histories_in names logs) e)
-    law.counted (noted-there names logs e (omega (arith, counted)))
-    (note-law names me logs seen e law has may)
+    lawful-of names logs (cells_in names) (logged.Book e ∷ [])
+    (with_entry (histories_in names logs) e)
+    law.counted (with_entry-there names logs e (omega (arith, counted)))
+    (entry-law names me logs seen e law has may)

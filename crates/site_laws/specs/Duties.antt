@@ -33,14 +33,14 @@ pub record MayDeliver (names : List NameShards) (me : ℕ) (seen : List Log) (ce
 
 -- an entry that the writer may add to the book: a Bind that may join it, a Store of what was
 -- delivered that raises something
-abbrev pub MayNote : List NameShards → ℕ → List Log → BookEntry → Type 0
-MayNote names me seen (Bind by key b) =
+abbrev pub MayAppendEntry : List NameShards → ℕ → List Log → BookEntry → Type 0
+MayAppendEntry names me seen (Bind by key b) =
     (by ≡ me) × MayJoin names (histories_in names seen).book (Bind by key b)
-MayNote names me seen (Store by key upto) =
+MayAppendEntry names me seen (Store by key upto) =
     (by ≡ me) × (MayStore names (histories_in names seen) key upto
     × (raises key (histories_in names seen).book upto ≡ true))
 
--- entries that may stand in the cell and deliver nothing; there may be none
+-- entries that belong in the cell and deliver nothing; there may be none
 pub record IsFitStep (names : List NameShards) (cell : ℕ) (step : List Entry) : Type 0 where
   pub fit : IsFitCell names cell step
   pub plain : ArePlain step

@@ -7,7 +7,7 @@ use Rattle.topic_book.specs.Cells.{cells_in}
 use Rattle.topic_book.specs.declared.topic.BookEntry.{BookEntry}
 use Rattle.exchange_rules.specs.Cells.{Log, history_in, log_of}
 use Rattle.exchange_rules.specs.declared.log_entry.LogEntry.TheVariants as logged
-use Rattle.site_laws.specs.Duties.{MayWrite, MayDeliver, MayNote}
+use Rattle.site_laws.specs.Duties.{MayWrite, MayDeliver, MayAppendEntry}
 use Rattle.site_laws.specs.SiteCells.{AreSeenOf, IsLawful}
 
 -- the logs with these entries behind the cell's
@@ -30,6 +30,6 @@ pub record AppendsKeep : Type 0 where
       → MayDeliver names me seen cell step
       → IsLawful names (with_more logs cell
       (log_of (marked me (admitted (history_in (get_or seen cell [])) step))))
-  pub note : (names : List NameShards) (me : ℕ) (logs seen : List Log) (e : BookEntry)
-      → IsLawful names logs → HasSeen seen logs (cells_in names) → MayNote names me seen e
+  pub append_entry : (names : List NameShards) (me : ℕ) (logs seen : List Log) (e : BookEntry)
+      → IsLawful names logs → HasSeen seen logs (cells_in names) → MayAppendEntry names me seen e
       → IsLawful names (with_more logs (cells_in names) (logged.Book e ∷ []))

@@ -1,4 +1,4 @@
--- The histories that stand in the cells of a site, and the core's law over them (own).
+-- The histories in the cells of a site, and the core's law over them (own).
 use Rattle.std.specs.Prelude.{ℕ, zero, suc, ◌+◌, ◌≡◌, List, [], ◌∷◌, ◌++◌, get_or, length}
 use Rattle.tuple_values.specs.declared.names.NameShards.{NameShards}
 use Rattle.shard_versions.specs.Histories.{History}
@@ -13,19 +13,19 @@ shards_in zero logs = []
 shards_in (suc n) [] = []
 shards_in (suc n) (log ∷ logs) = history_in log ∷ shards_in n logs
 
--- the histories that stand in these cells, of which the last is the book's
+-- the histories in these cells, of which the last is the book's
 abbrev pub histories_in : List NameShards → List Log → Histories
 histories_in names logs = record {
   shards = shards_in (cells_in names) logs;
   book = book_in (get_or logs (cells_in names) []);
 }
 
--- there is a cell for each shard, and the book's, and the core's law holds of what stands there
+-- there is a cell for each shard, and the book's, and the core's law holds of these histories
 pub record IsLawful (names : List NameShards) (logs : List Log) : Type 0 where
   pub counted : length logs ≡ cells_in names + 1
   pub law : IsLaw names (histories_in names logs)
 
--- each log that was seen begins the one that stands in its cell
+-- each log that was seen begins the log of its cell
 abbrev pub AreSeenOf : List Log → List Log → Type 0
 AreSeenOf seen logs =
     (cell : ℕ) → (more : Log) × (get_or logs cell [] ≡ get_or seen cell [] ++ more)

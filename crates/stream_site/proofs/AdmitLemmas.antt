@@ -104,10 +104,10 @@ admits_as h kept now x r b e f g =
     ap (λ k. admits_kind (h ++ k) x.kind) (sym e) ∙ (sym f ∙ g)
 
 -- what the shard admits is admitted where those kept behind it admit it
-pub new_told : (h k : History) (src text id name : ByteList) (v : ℕ) (a b : Bool)
+pub new_seen_by : (h k : History) (src text id name : ByteList) (v : ℕ) (a b : Bool)
     → a ≡ admits h src id v → a ≡ true → text ≡ src → name ≡ id → b ≡ admits k text name v
     → b ≡ admits (h ++ k) src id v
-new_told h k src text id name v a b e t f g is =
+new_seen_by h k src text id name v a b e t f g is =
     let rest = admits k src id v in
     is
     ∙ (ap (λ (s : ByteList). admits k s name v) f
@@ -115,7 +115,7 @@ new_told h k src text id name v a b e t f g is =
     ∙ (ap (λ x. x && rest) (sym (sym e ∙ t)) ∙ sym (admits-append h k src id v))))
 
 -- and what the shard doesn't admit isn't
-pub old_told : (h k : History) (src id : ByteList) (v : ℕ) (a : Bool) → a ≡ admits h src id v
+pub old_seen_by : (h k : History) (src id : ByteList) (v : ℕ) (a : Bool) → a ≡ admits h src id v
     → a ≡ false → a ≡ admits (h ++ k) src id v
-old_told h k src id v a e t =
+old_seen_by h k src id v a e t =
     t ∙ (ap (λ x. x && admits k src id v) (sym (sym e ∙ t)) ∙ sym (admits-append h k src id v))

@@ -9,11 +9,11 @@ use Rattle.shard_versions.specs.declared.entry.Kind.TheVariants.{Mark}
 use Rattle.shard_versions.proofs.ListLemmas.{each_append}
 use Rattle.exchange_rules.specs.Courses.{ends}
 use Rattle.exchange_rules.specs.Following.{Writer}
-use Rattle.exchange_rules.specs.Calls.{Stands, Passed}
+use Rattle.exchange_rules.specs.Calls.{HasAppended, Passed}
 use Rattle.exchange_rules.specs.Steps.{AreBy, closed, kinds_of, writes_in, step_course, write_course}
 use Rattle.exchange_rules.specs.declared.fault.SiteFault.{SiteFault}
 use Rattle.exchange_rules.proofs.RoutingLemmas.{writes_in-closed}
-use Rattle.exchange_rules.proofs.StandLemmas.{stands_none}
+use Rattle.exchange_rules.proofs.AppendedLemmas.{appended_none}
 use Rattle.exchange_rules.proofs.StepLemmas.{write_some}
 
 -- kinds that are closed, where there are any
@@ -62,9 +62,9 @@ is_closed me n commit step whole lt own same e =
 -- nothing is written of an empty step
 pub nothing_written : (w : Writer) (limit c : ℕ) (commit : Bool) (step : List Entry)
     (refusal : SiteFault) → length step ≡ 0
-    → Stands w w (write_course limit c (closed commit (kinds_of step)) refusal) (ends (Ok tt))
+    → HasAppended w w (write_course limit c (closed commit (kinds_of step)) refusal) (ends (Ok tt))
     (writes_in (kinds_of step))
-nothing_written w limit c commit [] refusal e = stands_none w (ends (Ok tt))
+nothing_written w limit c commit [] refusal e = appended_none w (ends (Ok tt))
 nothing_written w limit c commit (x ∷ step) refusal e = absurd (omega arith)
 
 -- a closed step isn't empty

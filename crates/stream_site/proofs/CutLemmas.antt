@@ -12,7 +12,7 @@ use Rattle.exchange_rules.specs.Cells.{history_in}
 use Rattle.exchange_rules.specs.Courses.{Course, ends, looks}
 use Rattle.exchange_rules.specs.Following.{Writer}
 use Rattle.exchange_rules.specs.Primitives.{LooksAt}
-use Rattle.exchange_rules.specs.Calls.{Stands, Completed}
+use Rattle.exchange_rules.specs.Calls.{HasAppended, Completed}
 use Rattle.exchange_rules.specs.Rows.{Layout, shown_of, part_of, cut_shards, cut_course}
 use Rattle.exchange_rules.specs.declared.fault.SiteFault.{SiteFault}
 use Rattle.exchange_rules.proofs.PrimitiveLemmas.{looks_from}
@@ -25,13 +25,13 @@ pub part_looked : (old mid : Writer) (c : ByteList) (shard cell : ℕ) (cut cut'
     (s : Shown) → cell < length old.seen → LooksAt old mid cell
     → s ≡ shown_of (history_in (get_or mid.seen cell []))
     → cut' ≡ cut ++ record { collection = c; shard = shard; snapshot = s } ∷ []
-    → Stands old mid (looks cell (λ log. ends (cut ++ part_of c shard (history_in log) ∷ [])))
+    → HasAppended old mid (looks cell (λ log. ends (cut ++ part_of c shard (history_in log) ∷ [])))
     (ends cut') 0
 part_looked old mid c shard cell cut cut' s lt l e f =
     let look = looks cell (λ log. ends (cut ++ part_of c shard (history_in log) ∷ [])) in
     let same : cut' ≡ cut ++ part_of c shard (history_in (get_or mid.seen cell [])) ∷ [] =
     f ∙ ap (λ (x : Shown). cut ++ record { collection = c; shard = shard; snapshot = x } ∷ []) e in
-    subst (λ x. Stands old mid look (ends x) 0) (sym same)
+    subst (λ x. HasAppended old mid look (ends x) 0) (sym same)
     (looks_from old mid cell (λ log. ends (cut ++ part_of c shard (history_in log) ∷ [])) lt l)
 
 -- what was done where a call stands is the course's look at its shard
@@ -63,14 +63,15 @@ collection_here old new l m c cut r e p =
 pub next_collection : (old new : Writer) (p : Course (List CutPart)) (names : List NameShards)
     (cut : List CutPart) (collections : List ByteList) (i : ℕ) (c : ByteList)
     → i < length collections → c ≡ get_or collections i c
-    → Stands old new p (cut_course names cut (drop i collections)) 0
-    → Stands old new p (cut_course names cut (c ∷ drop (i + 1) collections)) 0
+    → HasAppended old new p (cut_course names cut (drop i collections)) 0
+    → HasAppended old new p (cut_course names cut (c ∷ drop (i + 1) collections)) 0
 next_collection old new p names cut collections i c lt e s =
-    subst (λ x. Stands old new p (cut_course names cut x) 0) (from_item collections i c lt e) s
+    subst (λ x. HasAppended old new p (cut_course names cut x) 0) (from_item collections i c lt e) s
 
 -- none is left
 pub no_collection : (old new : Writer) (p : Course (List CutPart)) (names : List NameShards)
     (cut : List CutPart) (collections : List ByteList) (i : ℕ) → length collections ≤ i
-    → Stands old new p (cut_course names cut (drop i collections)) 0 → Stands old new p (ends cut) 0
+    → HasAppended old new p (cut_course names cut (drop i collections)) 0
+    → HasAppended old new p (ends cut) 0
 no_collection old new p names cut collections i le s =
-    subst (λ x. Stands old new p (cut_course names cut x) 0) (drop_all i collections le) s
+    subst (λ x. HasAppended old new p (cut_course names cut x) 0) (drop_all i collections le) s

@@ -9,7 +9,7 @@ use Rattle.topic_book.specs.Books.{Book}
 use Rattle.topic_book.specs.declared.topic.BookEntry.{BookEntry}
 use Rattle.topic_book.specs.declared.topic.BookEntry.TheVariants as book
 use Rattle.exchange_rules.specs.Bindings.{book_seen}
-use Rattle.exchange_rules.specs.Cells.{Log, author_of, book_in, deed_of, log_of, log_of_book, signed}
+use Rattle.exchange_rules.specs.Cells.{Log, author_of, book_in, payload_of, log_of, log_of_book, signed}
 use Rattle.exchange_rules.specs.declared.log_entry.LogEntry.TheVariants as logged
 use Rattle.exchange_rules.specs.Courses.{appended}
 use Rattle.exchange_rules.specs.Following.{Writer}
@@ -51,26 +51,26 @@ set_last (h ∷ hs) b d = ap (λ x. log_of h ∷ x) (set_last hs b d)
 
 -- an entry of the one writer, signed
 signed_one : (e : BookEntry) → author_of (logged.Book e) ≡ 1
-    → signed 1 (deed_of e ∷ []) ≡ logged.Book e ∷ []
+    → signed 1 (payload_of e ∷ []) ≡ logged.Book e ∷ []
 signed_one (book.Bind by key b) m = ap (λ n. logged.Book (book.Bind n key b) ∷ []) (sym m)
 signed_one (book.Store by key upto) m = ap (λ n. logged.Book (book.Store n key upto) ∷ []) (sym m)
 
 -- an entry of the book by a writer that is alone
-pub plain_noted : (p : Plain) (b : Book) (e : BookEntry) (n from : ℕ) (own : List OwnMark)
+pub plain_appended : (p : Plain) (b : Book) (e : BookEntry) (n from : ℕ) (own : List OwnMark)
     → n ≡ length p.shards → author_of (logged.Book e) ≡ 1 → b ≡ p.book ++ e ∷ []
     → from ≡ length p.book
     → own ≡ p.own ++ record { cell = n; from = from; count = 1 } ∷ []
-    → writer_of (record p { book = b; own = own }) ≡ made (writer_of p) n (deed_of e ∷ [])
-plain_noted p b e n from own at by after f o =
+    → writer_of (record p { book = b; own = own }) ≡ made (writer_of p) n (payload_of e ∷ [])
+plain_appended p b e n from own at by after f o =
     let w = writer_of p in
-    let deeds = deed_of e ∷ [] in
+    let payloads = payload_of e ∷ [] in
     let here = book_at p.shards p.book n at in
-    let more : log_of_book b ≡ get_or w.seen n [] ++ signed 1 deeds =
+    let more : log_of_book b ≡ get_or w.seen n [] ++ signed 1 payloads =
     ap log_of_book after
     ∙ (map-append _ p.book (e ∷ [])
     ∙ (ap (λ x. log_of_book p.book ++ x) (sym (signed_one e by))
-    ∙ ap (λ x. x ++ signed 1 deeds) (sym here))) in
-    let seen : logs_in p.shards b ≡ appended 1 w.seen n deeds =
+    ∙ ap (λ x. x ++ signed 1 payloads) (sym here))) in
+    let seen : logs_in p.shards b ≡ appended 1 w.seen n payloads =
     sym (set_last p.shards (log_of_book p.book) (log_of_book b))
     ∙ (ap (λ x. set w.seen x (log_of_book b)) (sym at) ∙ ap (set w.seen n) more) in
     let begun : from ≡ length (get_or w.seen n []) = f ∙ book_long p.shards p.book n at in
@@ -82,7 +82,7 @@ plain_noted p b e n from own at by after f o =
       count = 1;
     } ∷ [] =
     o ∙ ap (λ z. p.own ++ record { cell = n; from = z; count = 1 } ∷ []) begun in
-    ap (λ s. build s own) seen ∙ ap (build (appended 1 w.seen n deeds)) told
+    ap (λ s. build s own) seen ∙ ap (build (appended 1 w.seen n payloads)) told
 
 -- what was seen of the book is what is kept of it
 pub plain_book : (shards : List Shard) (s p : Plain) → s ≡ p → histories_of shards ≡ s.shards

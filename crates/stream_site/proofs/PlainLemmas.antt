@@ -78,7 +78,7 @@ pub plain_made : (p : Plain) (shards : List Shard) (c : ℕ) (x y : Shard) (step
 plain_made p shards c x y step from count own e lt is by after f n o =
     let w = writer_of p in
     let hs = histories_of shards in
-    let deeds = map write (kinds_of step) in
+    let payloads = map write (kinds_of step) in
     let long : c < length hs = simp length-map lt in
     let old : x.entries ≡ get_or hs c [] =
     sym (get_or-map (λ (s : Shard). s.entries) shards c x [] lt
@@ -86,21 +86,21 @@ plain_made p shards c x y step from count own e lt is by after f n o =
     let new : histories_of (set shards c y) ≡ set hs c (x.entries ++ step) =
     map-set (λ (s : Shard). s.entries) shards c y ∙ ap (set hs c) after in
     let seen : logs_in (histories_of (set shards c y)) p.book
-    ≡ appended 1 (logs_in p.shards p.book) c deeds =
+    ≡ appended 1 (logs_in p.shards p.book) c payloads =
     ap (λ z. logs_in z p.book) new
     ∙ (seen_after hs p.book c x.entries step long old by
-    ∙ ap (λ z. appended 1 (logs_in z p.book) c deeds) e) in
+    ∙ ap (λ z. appended 1 (logs_in z p.book) c payloads) e) in
     let size : length (log_of x.entries) ≡ length x.entries = simp length-map in
     let begun : from ≡ length (get_or w.seen c []) =
     f ∙ (sym size ∙ ap length (sym (seen_at p shards c x e lt is))) in
-    let whole : length deeds ≡ length step = simp (length-map, length-map) in
-    let all : count ≡ length deeds = n ∙ sym whole in
+    let whole : length payloads ≡ length step = simp (length-map, length-map) in
+    let all : count ≡ length payloads = n ∙ sym whole in
     let build : List Log → List OwnMark → Writer =
     λ s b. record { me = 1; seen = s; marks = p.marks; own = b; looks = p.looks } in
     let told : own ≡ p.own ++ record {
       cell = c;
       from = length (get_or w.seen c []);
-      count = length deeds;
+      count = length payloads;
     } ∷ [] =
     o ∙ (ap (λ z. p.own ++ record { cell = c; from = z; count = count } ∷ []) begun
     ∙ ap (λ z. p.own ++ record {
@@ -108,7 +108,7 @@ plain_made p shards c x y step from count own e lt is by after f n o =
       from = length (get_or w.seen c []);
       count = z;
     } ∷ []) all) in
-    ap (λ s. build s own) seen ∙ ap (build (appended 1 w.seen c deeds)) told
+    ap (λ s. build s own) seen ∙ ap (build (appended 1 w.seen c payloads)) told
 
 -- a shard that stays as it was
 pub plain_kept : (p : Plain) (shards : List Shard) (c : ℕ) (x y : Shard)

@@ -11,7 +11,7 @@ use Rattle.shard_versions.specs.declared.entry.Entry.{Entry}
 use Rattle.shard_versions.specs.declared.entry.Kind.{Kind}
 use Rattle.topic_book.specs.Cells.{cell_of}
 use Rattle.topic_book.specs.Fitness.{shards_of}
-use Rattle.exchange_rules.specs.Calls.{Stands, Refused, PassedSent, Answered}
+use Rattle.exchange_rules.specs.Calls.{HasAppended, Refused, PassedSent, Answered}
 use Rattle.exchange_rules.specs.Cells.{Log, history_in}
 use Rattle.exchange_rules.specs.Courses.{Course, ends, looks, and_ok}
 use Rattle.exchange_rules.specs.Deliveries.{admitted_kinds, send_admitted, send_at, send_course, send_shards, send_step, sent_kind, sent_kinds, sent_share}
@@ -23,12 +23,12 @@ use Rattle.exchange_rules.specs.declared.batch.BatchItem.{BatchItem}
 use Rattle.exchange_rules.specs.declared.batch.Sent as sent
 use Rattle.exchange_rules.specs.declared.fault.SiteFault.{SiteFault}
 use Rattle.exchange_rules.specs.declared.fault.SiteFault.TheVariants.{ShardFull}
-use Rattle.exchange_rules.proofs.DeliveryLemmas.{sends_refused, sends_stand}
+use Rattle.exchange_rules.proofs.DeliveryLemmas.{sends_refused, sends_appended}
 use Rattle.exchange_rules.proofs.CellLemmas.{cell_of-within}
 use Rattle.exchange_rules.proofs.GrowthLemmas.{grows_at, grows_join, grows_length, grows_set}
 use Rattle.exchange_rules.proofs.PrimitiveLemmas.{looks_from}
 use Rattle.exchange_rules.proofs.RoutingLemmas.{length_below-le, length_below-routed}
-use Rattle.exchange_rules.proofs.StandLemmas.{refused_on, refused_then, stands_none, stands_ok, stands_on}
+use Rattle.exchange_rules.proofs.AppendedLemmas.{refused_on, refused_then, appended_none, appended_ok, appended_on}
 use Rattle.exchange_rules.proofs.StepLemmas.{kinds_of-entries_by}
 use Rattle.site_laws.specs.Duties.{MaySend, MayDeliver}
 use Rattle.site_laws.proofs.DutyLemmas.{may-deliver}
@@ -54,18 +54,19 @@ deliver_here old new l m c share s stand at ks r e i k p =
 pub shard_sent : (old mid new : Writer) (p : Course (Result ℕ SiteFault)) (l m : Layout)
     (c : ByteList) (share : ℕ → List Kind) (s sent n more : ℕ) (at : Spot) (ks : List Kind)
     → s < n → m ≡ l → IsSpot m.names c s sent at → ks ≡ share s
-    → Stands old mid p (send_shards l c share sent s (n - s)) sent
-    → Stands mid new (send_step m.limit at.cell (full_there at) ks) (ends (Ok more)) more
-    → Stands old new p (send_shards l c share (sent + more) (s + 1) (n - (s + 1))) (sent + more)
+    → HasAppended old mid p (send_shards l c share sent s (n - s)) sent
+    → HasAppended mid new (send_step m.limit at.cell (full_there at) ks) (ends (Ok more)) more
+    → HasAppended old new p (send_shards l c share (sent + more) (s + 1) (n - (s + 1)))
+    (sent + more)
 shard_sent old mid new p l m c share s sent n more at ks lt e i k a b =
-    sends_stand old mid new p l c share n s sent more lt a
+    sends_appended old mid new p l c share n s sent more lt a
     (deliver_here mid new l m c share s sent at ks (Ok more) e i k b)
 
 -- or is refused
 pub shard_refused : (old mid new : Writer) (p : Course (Result ℕ SiteFault)) (l m : Layout)
     (c : ByteList) (share : ℕ → List Kind) (s sent n : ℕ) (at : Spot) (ks : List Kind)
     (fault : SiteFault) → s < n → m ≡ l → IsSpot m.names c s sent at → ks ≡ share s
-    → Stands old mid p (send_shards l c share sent s (n - s)) sent
+    → HasAppended old mid p (send_shards l c share sent s (n - s)) sent
     → Refused at.stand mid new (send_step m.limit at.cell (full_there at) ks) fault
     → Refused 0 old new p fault
 shard_refused old mid new p l m c share s sent n at ks fault lt e i k a b =
@@ -216,7 +217,7 @@ send_answered old new l dest src batch n refused e p =
     let first = send_shards l dest (sent_share src batch k) 0 0 k in
     let next : ℕ → Course (Result sent.Sent SiteFault) =
     λ m. ends (Ok (record { admitted = m; refused = length batch - m })) in
-    let done = stands_ok old new first n next n p in
+    let done = appended_ok old new first n next n p in
     subst (λ x. Answered old new (send_course l dest src batch)
     (Ok (record { admitted = n; refused = x }))) (sym e) done.reached
 
@@ -231,14 +232,14 @@ send_refused old new l dest src batch fault p =
     refused_then 0 old new (send_shards l dest (sent_share src batch k) 0 0 k) _ fault p
 
 -- the answer is how many were admitted
-pub sent_told : (old new : Writer) (p : Course (Result ℕ SiteFault)) (n k : ℕ) → n ≡ k
-    → Stands old new p (ends (Ok k)) k → Stands old new p (ends (Ok n)) n
-sent_told old new p n k e s = subst (λ x. Stands old new p (ends (Ok x)) x) (sym e) s
+pub sent_as : (old new : Writer) (p : Course (Result ℕ SiteFault)) (n k : ℕ) → n ≡ k
+    → HasAppended old new p (ends (Ok k)) k → HasAppended old new p (ends (Ok n)) n
+sent_as old new p n k e s = subst (λ x. HasAppended old new p (ends (Ok x)) x) (sym e) s
 
 -- nothing is delivered of an empty step
 pub deliver_none : (w : Writer) (limit c : ℕ) (refusal : SiteFault) (step : List Entry)
-    → length step ≡ 0 → Stands w w (send_step limit c refusal (kinds_of step)) (ends (Ok 0)) 0
-deliver_none w limit c refusal [] e = stands_none w (ends (Ok 0))
+    → length step ≡ 0 → HasAppended w w (send_step limit c refusal (kinds_of step)) (ends (Ok 0)) 0
+deliver_none w limit c refusal [] e = appended_none w (ends (Ok 0))
 deliver_none w limit c refusal (x ∷ step) e = absurd (omega arith)
 
 -- what a step of deliveries asks, after a look
@@ -265,7 +266,7 @@ deliver_looked before old mid new c limit refusal (x ∷ step) (Ok n) lt within 
     let ks = kinds_of (x ∷ step) in
     let see : Log → Course (Result ℕ SiteFault) = λ log.
     send_admitted limit c refusal (history_in log) (admitted_kinds (history_in log) ks) in
-    stands_on old mid new (looks c see) (see (get_or mid.seen c [])) (ends (Ok n)) n
+    appended_on old mid new (looks c see) (see (get_or mid.seen c [])) (ends (Ok n)) n
     (looks_from old mid c see within look) p
 deliver_looked before old mid new c limit refusal (x ∷ step) (Err fault) lt within look p =
     let ks = kinds_of (x ∷ step) in

@@ -24,8 +24,8 @@ use Rattle.once_core.specs.Cells.{cell_of, shard_history}
 use Rattle.once_core.specs.declared.world.Histories.{Histories}
 use Rattle.once_core.proofs.KeepingLemmas.{counted_init}
 use Rattle.exchange_rules.specs.Bindings.{bind_again, bind_new, bind_seen, book_cell, book_seen, bound_checkpoint, checkpoint_in, store_seen, topic_state_course}
-use Rattle.exchange_rules.specs.Calls.{Answered, IsStopped, Passed, Refused, Stands}
-use Rattle.exchange_rules.specs.Cells.{Log, author_of, bind, book_in, deed_of, signed, store, history_in}
+use Rattle.exchange_rules.specs.Calls.{Answered, IsStopped, Passed, Refused, HasAppended}
+use Rattle.exchange_rules.specs.Cells.{Log, author_of, bind, book_in, payload_of, signed, store, history_in}
 use Rattle.exchange_rules.specs.Courses.{Course, ends, looks}
 use Rattle.exchange_rules.specs.Following.{Writer}
 use Rattle.exchange_rules.specs.Primitives.{LooksAt, made}
@@ -33,11 +33,11 @@ use Rattle.exchange_rules.specs.Rows.{Layout, shown_of}
 use Rattle.exchange_rules.specs.declared.fault.SiteFault.{SiteFault}
 use Rattle.exchange_rules.specs.declared.fault.SiteFault.TheVariants.{TopicBound, BookFull}
 use Rattle.exchange_rules.specs.declared.log_entry.LogEntry.TheVariants as logged
-use Rattle.exchange_rules.proofs.BindingLemmas.{bind_full, bind_stands, bound_by, store_stands}
+use Rattle.exchange_rules.proofs.BindingLemmas.{bind_full, bind_appended, bound_by, store_appended}
 use Rattle.exchange_rules.proofs.PrimitiveLemmas.{looks_from}
-use Rattle.exchange_rules.proofs.StandLemmas.{answered_of, stands_none, stopped_at}
+use Rattle.exchange_rules.proofs.AppendedLemmas.{answered_of, appended_none, stopped_at}
 use Rattle.exchange_rules.proofs.StepLemmas.{look_begun, look_passed, nothing_done}
-use Rattle.site_laws.specs.Duties.{MayNote}
+use Rattle.site_laws.specs.Duties.{MayAppendEntry}
 use Rattle.site_laws.specs.SiteCells.{histories_in}
 use Rattle.exchange_rules.proofs.CellLemmas.{cell_of-within}
 use Rattle.site_laws.proofs.CellLemmas.{book-append, shard-at}
@@ -69,45 +69,45 @@ plain_topic shards s p view e counted fit key upto m =
     of_topic p.names (histories_in p.names (writer_of p).seen) s.book key upto m here fit'
 
 -- an entry that may be added to the book may follow there
-note_follows : (names : List NameShards) (seen : List Log) (b : Book) (me : ℕ) (e : BookEntry)
+entry_follows : (names : List NameShards) (seen : List Log) (b : Book) (me : ℕ) (e : BookEntry)
     → (histories_in names seen).book ≡ b → AllByRecursion (IsFitEntry names) b
-    → MayNote names me seen e → MayFollow b e
-note_follows names seen b me (book.Bind by key c) same fit may =
+    → MayAppendEntry names me seen e → MayFollow b e
+entry_follows names seen b me (book.Bind by key c) same fit may =
     subst (λ x. binding_of key x ≡ None) same may.1.follows
-note_follows names seen b me (book.Store by key upto) same fit may =
+entry_follows names seen b me (book.Store by key upto) same fit may =
     of_topic names (histories_in names seen) b key upto may.1.0 same fit
 
 -- it is the writer's
-note_by : (names : List NameShards) (seen : List Log) (me : ℕ) (e : BookEntry)
-    → MayNote names me seen e → author_of (logged.Book e) ≡ me
-note_by names seen me (book.Bind by key c) may = may.0
-note_by names seen me (book.Store by key upto) may = may.0
+entry_by : (names : List NameShards) (seen : List Log) (me : ℕ) (e : BookEntry)
+    → MayAppendEntry names me seen e → author_of (logged.Book e) ≡ me
+entry_by names seen me (book.Bind by key c) may = may.0
+entry_by names seen me (book.Store by key upto) may = may.0
 
 -- and on known collections
-note_fit : (names : List NameShards) (seen : List Log) (me : ℕ) (e : BookEntry)
-    → MayNote names me seen e → IsFitEntry names e
-note_fit names seen me (book.Bind by key c) may = may.1.fit
-note_fit names seen me (book.Store by key upto) may = tt
+entry_fit : (names : List NameShards) (seen : List Log) (me : ℕ) (e : BookEntry)
+    → MayAppendEntry names me seen e → IsFitEntry names e
+entry_fit names seen me (book.Bind by key c) may = may.1.fit
+entry_fit names seen me (book.Store by key upto) may = tt
 
 -- what is known of an entry that a writer that is alone may add
-pub record IsNoted (s : Plain) (e : BookEntry) : Type 0 where
+pub record IsAppendable (s : Plain) (e : BookEntry) : Type 0 where
   pub follows : MayFollow s.book e
   pub own : author_of (logged.Book e) ≡ 1
   pub fit : IsFitEntry s.names e
 
 -- by what may be added
-pub plain_note : (shards : List Shard) (s p : Plain) → s ≡ p → histories_of shards ≡ s.shards
+pub plain_appendable : (shards : List Shard) (s p : Plain) → s ≡ p → histories_of shards ≡ s.shards
     → length shards ≡ cells_in s.names → AllByRecursion (IsFitEntry s.names) s.book
-    → (e : BookEntry) → MayNote p.names 1 (writer_of p).seen e → IsNoted s e
-plain_note shards s p view e counted fit entry may =
+    → (e : BookEntry) → MayAppendEntry p.names 1 (writer_of p).seen e → IsAppendable s e
+plain_appendable shards s p view e counted fit entry may =
     let here = plain_book shards s p view e counted in
     let names : s.names ≡ p.names = ap (λ (x : Plain). x.names) view in
     record {
-      follows = note_follows p.names (writer_of p).seen s.book 1 entry here
+      follows = entry_follows p.names (writer_of p).seen s.book 1 entry here
           (subst (λ n. AllByRecursion (IsFitEntry n) s.book) names fit) may;
-      own = note_by p.names (writer_of p).seen 1 entry may;
+      own = entry_by p.names (writer_of p).seen 1 entry may;
       fit = subst (λ n. IsFitEntry n entry) (sym names)
-          (note_fit p.names (writer_of p).seen 1 entry may);
+          (entry_fit p.names (writer_of p).seen 1 entry may);
     }
 
 -- why a Bind of a topic that isn't bound was refused
@@ -119,9 +119,9 @@ bind_new_refused w new names by key b seen (fault.TopicBound kept) none e cause 
     absurd (let taken = cause.is_kept in cc)
 bind_new_refused w new names by key b seen (fault.BookFull topics) none e cause =
     let full = bind_full w new names key b seen none cause.many e in
-    let here = subst (λ o. Stands w new (bind_seen names key b seen o)
+    let here = subst (λ o. HasAppended w new (bind_seen names key b seen o)
     (ends (Err (BookFull (topics_in seen)))) 0) none full in
-    (subst (λ n. Stands w new (bind_new names key b seen) (ends (Err (BookFull n))) 0)
+    (subst (λ n. HasAppended w new (bind_new names key b seen) (ends (Err (BookFull n))) 0)
     (sym cause.counted) here).reached
 bind_new_refused w new names by key b seen fault.OutOfMemory none e cause =
     nothing_done 0 w new (bind_new names key b seen) e
@@ -129,13 +129,13 @@ bind_new_refused w new names by key b seen fault.OutOfMemory none e cause =
 -- a topic that is bound alike is answered with its checkpoint
 pub again_alike : (w : Writer) (key : TopicKey) (b kept : Binding) (seen : Book) (upto : List ℕ)
     → is_alike kept b ≡ true → upto ≡ checkpoint_in key seen
-    → Stands w w (bind_again key b seen kept) (ends (Ok upto)) 0
+    → HasAppended w w (bind_again key b seen kept) (ends (Ok upto)) 0
 again_alike w key b kept seen upto same e =
     let answer : Course (Result (List ℕ) SiteFault) = ends (Ok upto) in
     let course : bind_again key b seen kept ≡ answer =
     ap (λ t. if t then ends (Ok (checkpoint_in key seen)) else ends (Err (TopicBound kept))) same
     ∙ ap (λ u. ends (Ok u)) (sym e) in
-    subst (λ p. Stands w w p answer 0) (sym course) (stands_none w answer)
+    subst (λ p. HasAppended w w p answer 0) (sym course) (appended_none w answer)
 
 -- and one that is bound to others with those
 pub again_taken : (w : Writer) (key : TopicKey) (b kept told : Binding) (seen : Book)
@@ -146,7 +146,7 @@ again_taken w key b kept told seen differs e =
     let course : bind_again key b seen kept ≡ answer =
     ap (λ t. if t then ends (Ok (checkpoint_in key seen)) else ends (Err (TopicBound kept))) differs
     ∙ ap (λ k. ends (Err (TopicBound k))) (sym e) in
-    (subst (λ p. Stands w w p answer 0) (sym course) (stands_none w answer)).reached
+    (subst (λ p. HasAppended w w p answer 0) (sym course) (appended_none w answer)).reached
 
 -- the book after a Bind
 book_after : (l : Layout) (w : Writer) (key : TopicKey) (b : Binding)
@@ -159,14 +159,14 @@ book_after l w key b lt =
     ∙ book-append (get_or w.seen n []) (signed w.me (bind key b ∷ []))
 
 -- a topic that wasn't bound is bound, and answered with its checkpoint
-pub bound_stands : (old new : Writer) (l m : Layout) (by : ℕ) (key copy : TopicKey) (b : Binding)
+pub bound_appended : (old new : Writer) (l m : Layout) (by : ℕ) (key copy : TopicKey) (b : Binding)
     (upto : List ℕ) → m ≡ l → book_cell l.names < length old.seen → copy ≡ key
     → binding_of key (book_seen l old) ≡ None
-    → new ≡ made old (book_cell l.names) (deed_of (book.Bind by copy b) ∷ [])
+    → new ≡ made old (book_cell l.names) (payload_of (book.Bind by copy b) ∷ [])
     → IsOpenTo (book_seen l old) (book.Bind by copy b)
     → upto ≡ checkpoint_in key (book_seen m new)
-    → Stands old new (bind_new l.names key b (book_seen l old)) (ends (Ok upto)) 0
-bound_stands old new l m by key copy b upto e lt same none done few u =
+    → HasAppended old new (bind_new l.names key b (book_seen l old)) (ends (Ok upto)) 0
+bound_appended old new l m by key copy b upto e lt same none done few u =
     let seen = book_seen l old in
     let done' : new ≡ made old (book_cell l.names) (bind key b ∷ []) =
     done ∙ ap (λ k. made old (book_cell l.names) (bind k b ∷ [])) same in
@@ -177,21 +177,22 @@ bound_stands old new l m by key copy b upto e lt same none done few u =
     ∙ (ap (book_seen l) done' ∙ book_after l old key b lt) in
     let answer : upto ≡ bound_checkpoint key seen b =
     u ∙ (ap (checkpoint_in key) after ∙ bound_by old.me key b seen) in
-    let all = bind_stands old new l.names key b seen none free lt done' in
-    subst (λ x. Stands old new (bind_new l.names key b seen) (ends (Ok x)) 0) (sym answer)
-    (subst (λ o. Stands old new (bind_seen l.names key b seen o)
+    let all = bind_appended old new l.names key b seen none free lt done' in
+    subst (λ x. HasAppended old new (bind_new l.names key b seen) (ends (Ok x)) 0) (sym answer)
+    (subst (λ o. HasAppended old new (bind_seen l.names key b seen o)
     (ends (Ok (bound_checkpoint key seen b))) 0) none all)
 
 -- or is bound, and memory is wanting for the answer
 pub bound_stopped : (old new : Writer) (l : Layout) (by : ℕ) (key copy : TopicKey) (b : Binding)
     → book_cell l.names < length old.seen → copy ≡ key
     → binding_of key (book_seen l old) ≡ None
-    → new ≡ made old (book_cell l.names) (deed_of (book.Bind by copy b) ∷ [])
+    → new ≡ made old (book_cell l.names) (payload_of (book.Bind by copy b) ∷ [])
     → IsOpenTo (book_seen l old) (book.Bind by copy b)
     → IsStopped 0 old new (bind_new l.names key b (book_seen l old)) 0
 bound_stopped old new l by key copy b lt same none done few =
     stopped_at 0 old new (bind_new l.names key b (book_seen l old)) _
-    (bound_stands old new l l by key copy b (checkpoint_in key (book_seen l new)) refl lt same none
+    (bound_appended old new l l by key copy b
+    (checkpoint_in key (book_seen l new)) refl lt same none
     done few refl)
 
 -- a Bind of the key's copy was refused
@@ -209,18 +210,18 @@ pub may_bind : (names : List NameShards) (me by : ℕ) (seen : List Log) (key co
     (b : Binding) → by ≡ me → copy ≡ key
     → binding_of key (book_in (get_or seen (book_cell names) [])) ≡ None
     → IsOnCollections names key b → IsReadable b.q
-    → MayNote names me seen (book.Bind by copy b)
+    → MayAppendEntry names me seen (book.Bind by copy b)
 may_bind names me by seen key copy b own same none on readable =
-    subst (λ k. MayNote names me seen (book.Bind by k b)) (sym same)
+    subst (λ k. MayAppendEntry names me seen (book.Bind by k b)) (sym same)
     (own, record { follows = none; fit = on; readable = readable })
 
 -- a Store may be added where it raises something
 pub may_store : (names : List NameShards) (me by : ℕ) (seen : List Log) (key copy : TopicKey)
     (upto : List ℕ) → by ≡ me → copy ≡ key → MayStore names (histories_in names seen) key upto
     → raises key (book_in (get_or seen (book_cell names) [])) upto ≡ true
-    → MayNote names me seen (book.Store by copy upto)
+    → MayAppendEntry names me seen (book.Store by copy upto)
 may_store names me by seen key copy upto own same m up =
-    subst (λ k. MayNote names me seen (book.Store by k upto)) (sym same) (own, (m, up))
+    subst (λ k. MayAppendEntry names me seen (book.Store by k upto)) (sym same) (own, (m, up))
 
 -- a checkpoint that may be stored may be after a look at the book
 pub store_after_look : (l k m : Layout) (start old mid : Writer) (cell : ℕ) (key : TopicKey)
@@ -267,7 +268,7 @@ book_looked start old mid new l k m cell see r s d e at lt look p =
 pub state_looked : (start old mid : Writer) (l k m : Layout) (cell : ℕ) (key : TopicKey)
     (state : Option (List ℕ)) → old ≡ start → k ≡ l → m ≡ k → cell ≡ book_cell k.names
     → cell < length old.seen → LooksAt old mid cell → state ≡ checkpoints key (book_seen m mid)
-    → Stands start mid (topic_state_course l.names key) (ends state) 0
+    → HasAppended start mid (topic_state_course l.names key) (ends state) 0
 state_looked start old mid l k m cell key state s d e at lt look is =
     let n = book_cell l.names in
     let see : Log → Course (Option (List ℕ)) = λ log. ends (checkpoints key (book_in log)) in
@@ -276,8 +277,8 @@ state_looked start old mid l k m cell key state s d e at lt look is =
     let looked = subst (LooksAt old mid) at' look in
     let is' : state ≡ checkpoints key (book_seen l mid) =
     is ∙ ap (λ (x : Layout). checkpoints key (book_seen x mid)) (e ∙ d) in
-    subst (λ (w : Writer). Stands w mid (topic_state_course l.names key) (ends state) 0) s
-    (subst (λ x. Stands old mid (topic_state_course l.names key) (ends x) 0) (sym is')
+    subst (λ (w : Writer). HasAppended w mid (topic_state_course l.names key) (ends state) 0) s
+    (subst (λ x. HasAppended old mid (topic_state_course l.names key) (ends x) 0) (sym is')
     (looks_from old mid n see here looked))
 
 -- or memory is wanting to tell it
@@ -294,13 +295,13 @@ state_begun start old mid l k cell key s d at lt look =
     (look_begun old mid n see here looked)
 
 -- a checkpoint was stored
-pub stored_stands : (old new : Writer) (names : List NameShards) (by : ℕ) (key copy : TopicKey)
+pub stored_appended : (old new : Writer) (names : List NameShards) (by : ℕ) (key copy : TopicKey)
     (upto : List ℕ) (seen : Book) → raises key seen upto ≡ true
     → book_cell names < length old.seen → copy ≡ key
-    → new ≡ made old (book_cell names) (deed_of (book.Store by copy upto) ∷ [])
-    → Stands old new (store_seen {E = SiteFault} names key upto seen) (ends (Ok tt)) 0
-stored_stands old new names by key copy upto seen up lt same done =
-    store_stands old new names key upto seen up lt
+    → new ≡ made old (book_cell names) (payload_of (book.Store by copy upto) ∷ [])
+    → HasAppended old new (store_seen {E = SiteFault} names key upto seen) (ends (Ok tt)) 0
+stored_appended old new names by key copy upto seen up lt same done =
+    store_appended old new names key upto seen up lt
     (done ∙ ap (λ k. made old (book_cell names) (store k upto ∷ [])) same)
 
 -- the top that a look at a shard showed is that of the shard's history

@@ -10,14 +10,14 @@ use Rattle.topic_book.specs.Cells.{cell_of}
 use Rattle.topic_book.specs.Fitness.{shards_of}
 use Rattle.exchange_rules.specs.Courses.{ends, and_ok}
 use Rattle.exchange_rules.specs.Following.{Writer}
-use Rattle.exchange_rules.specs.Calls.{Stands, Refused, Passed, Answered}
-use Rattle.exchange_rules.specs.Rows.{Layout, length_below, write_at, writes_course, settle_at, settle_all, finish_course, shares_of, index_course}
-use Rattle.exchange_rules.specs.Steps.{closed, kinds_of, routed, settle_unless, write_course, writes_in}
+use Rattle.exchange_rules.specs.Calls.{HasAppended, Refused, Passed, Answered}
+use Rattle.exchange_rules.specs.Rows.{Layout, length_below, write_at, writes_course, commit_at, commit_shards, finish_course, shares_of, index_course}
+use Rattle.exchange_rules.specs.Steps.{closed, kinds_of, routed, commit_unless, write_course, writes_in}
 use Rattle.exchange_rules.specs.declared.fault.SiteFault.{SiteFault}
 use Rattle.exchange_rules.specs.declared.fault.SiteFault.TheVariants.{ShardFull}
 use Rattle.exchange_rules.proofs.RoutingLemmas.{length_below-same, length_below-routed, writes_in-routed}
 use Rattle.exchange_rules.proofs.ShardLemmas.{each_same}
-use Rattle.exchange_rules.proofs.StandLemmas.{stands_ok, stands_join, refused_then, refused_on}
+use Rattle.exchange_rules.proofs.AppendedLemmas.{appended_ok, appended_join, refused_then, refused_on}
 use Rattle.exchange_rules.proofs.StepLemmas.{kinds_of-entries_by, entries_by_are}
 use Rattle.stream_site.specs.Shares.{AreShares, AreCounts, AreSteps, share_in}
 use Rattle.stream_site.proofs.ShareLemmas.{shares_counts}
@@ -59,12 +59,12 @@ writes_same l c a b commit e =
     below)
 
 -- a commit after as many writes
-settle_same : (l : Layout) (c : ByteList) (a b : ℕ → ℕ) (stand : ℕ)
+commit_same : (l : Layout) (c : ByteList) (a b : ℕ → ℕ) (stand : ℕ)
     → ((s : ℕ) → s < shards_of l.names c → a s ≡ b s)
-    → settle_all l c a stand ≡ settle_all l c b stand
-settle_same l c a b stand e =
-    each_same (settle_at l c a stand) (settle_at l c b stand) 0 (shards_of l.names c) (λ s lt.
-    ap (λ n. settle_unless l.limit (cell_of l.names c s) n (ShardFull c s stand))
+    → commit_shards l c a stand ≡ commit_shards l c b stand
+commit_same l c a b stand e =
+    each_same (commit_at l c a stand) (commit_at l c b stand) 0 (shards_of l.names c) (λ s lt.
+    ap (λ n. commit_unless l.limit (cell_of l.names c s) n (ShardFull c s stand))
     (e s (omega arith)))
 
 -- the writes were appended as the row says, or one was refused
@@ -85,19 +85,20 @@ writes_passed old new l c me n ws steps commit r e a some p =
     (subst (λ x. Passed 0 old new x (length_below (share_in steps) k) r)
     (writes_same l c (share_in steps) (shares_of l c ws) commit same) p)
 
--- the other shards were settled as the row says, or one was refused
-settled_passed : (old new : Writer) (l m : Layout) (c : ByteList) (n total : ℕ)
+-- the other shards were committed as the row says, or one was refused
+committed_passed : (old new : Writer) (l m : Layout) (c : ByteList) (n total : ℕ)
     (ws : List Write) (counts : List ℕ) (r : Result (Unit {0}) SiteFault) → m ≡ l
     → n ≡ shards_of l.names c → total ≡ length ws → AreCounts n ws counts
-    → Passed total old new (settle_all m c (λ s. get_or counts s 0) total) 0 r
+    → Passed total old new (commit_shards m c (λ s. get_or counts s 0) total) 0 r
     → Passed (length ws) old new (finish_course l c (shares_of l c ws) (length ws) true) 0 r
-settled_passed old new l m c n total ws counts r e f t a p =
+committed_passed old new l m c n total ws counts r e f t a p =
     let a' = subst (λ k. AreCounts k ws counts) f a in
     let p' = subst (λ (x : Layout). Passed total old new
-    (settle_all x c (λ s. get_or counts s 0) total) 0 r) e p in
-    let p'' = subst (λ x. Passed x old new (settle_all l c (λ s. get_or counts s 0) x) 0 r) t p' in
+    (commit_shards x c (λ s. get_or counts s 0) total) 0 r) e p in
+    let p'' = subst (λ x. Passed x old new (commit_shards l c (λ s. get_or counts s 0) x) 0 r) t
+    p' in
     subst (λ x. Passed (length ws) old new x 0 r)
-    (settle_same l c (λ s. get_or counts s 0) (λ s. length (shares_of l c ws s)) (length ws) a') p''
+    (commit_same l c (λ s. get_or counts s 0) (λ s. length (shares_of l c ws s)) (length ws) a') p''
 
 -- an update without a commit
 index_plain : (old new : Writer) (l : Layout) (c : ByteList) (ws : List Write)
@@ -106,10 +107,10 @@ index_plain : (old new : Writer) (l : Layout) (c : ByteList) (ws : List Write)
     → Answered old new (index_course l c ws commit) (Ok total)
 index_plain old new l c ws commit total e t p =
     let share = shares_of l c ws in
-    let done = stands_ok old new (writes_course l c share commit) tt
+    let done = appended_ok old new (writes_course l c share commit) tt
     (λ _. and_ok (finish_course l c share (length ws) commit) (λ _. ends (Ok (length ws))))
     (length ws) p in
-    let done' = subst (λ b. Stands old new (index_course l c ws commit)
+    let done' = subst (λ b. HasAppended old new (index_course l c ws commit)
     (and_ok (finish_course l c share (length ws) b) (λ _. ends (Ok (length ws)))) (length ws))
     e done in
     subst (λ n. Answered old new (index_course l c ws commit) (Ok n)) (sym t) done'.reached
@@ -124,13 +125,14 @@ index_committed old mid new l c ws commit total e t p q =
     let share = shares_of l c ws in
     let finish = λ (b : Bool). and_ok (finish_course l c share (length ws) b)
     (λ _. ends (Ok (length ws))) in
-    let done = stands_ok old mid (writes_course l c share commit) tt (λ _. finish commit)
+    let done = appended_ok old mid (writes_course l c share commit) tt (λ _. finish commit)
     (length ws) p in
-    let done' = subst (λ b. Stands old mid (index_course l c ws commit) (finish b) (length ws)) e
+    let done' = subst (λ b. HasAppended old mid (index_course l c ws commit) (finish b) (length ws))
+    e
     done in
-    let rest = stands_ok mid new (finish_course l c share (length ws) true) tt
+    let rest = appended_ok mid new (finish_course l c share (length ws) true) tt
     (λ _. ends (Ok (length ws))) 0 q in
-    let all = stands_join old mid new (index_course l c ws commit) (finish true)
+    let all = appended_join old mid new (index_course l c ws commit) (finish true)
     (ends (Ok (length ws))) (length ws) 0 done' rest in
     subst (λ n. Answered old new (index_course l c ws commit) (Ok n)) (sym t) all.reached
 
@@ -143,18 +145,19 @@ index_refused old new l c ws commit fault p =
     refused_then 0 old new (writes_course l c (shares_of l c ws) commit) _ fault p
 
 -- or among the Marks after them
-settle_refused : (old mid new : Writer) (l : Layout) (c : ByteList) (ws : List Write)
+commit_refused : (old mid new : Writer) (l : Layout) (c : ByteList) (ws : List Write)
     (commit : Bool) (fault : SiteFault) → commit ≡ true
     → Passed 0 old mid (writes_course l c (shares_of l c ws) commit) (length ws) (Ok tt)
     → Passed (length ws) mid new (finish_course l c (shares_of l c ws) (length ws) true) 0
     (Err fault) → Refused 0 old new (index_course l c ws commit) fault
-settle_refused old mid new l c ws commit fault e p q =
+commit_refused old mid new l c ws commit fault e p q =
     let share = shares_of l c ws in
     let finish = λ (b : Bool). and_ok (finish_course l c share (length ws) b)
     (λ _. ends (Ok (length ws))) in
-    let done = stands_ok old mid (writes_course l c share commit) tt (λ _. finish commit)
+    let done = appended_ok old mid (writes_course l c share commit) tt (λ _. finish commit)
     (length ws) p in
-    let done' = subst (λ b. Stands old mid (index_course l c ws commit) (finish b) (length ws)) e
+    let done' = subst (λ b. HasAppended old mid (index_course l c ws commit) (finish b) (length ws))
+    e
     done in
     let n : length ws ≡ 0 + length ws = omega arith in
     refused_on 0 old mid new (index_course l c ws commit) (finish true) (length ws) fault done'
@@ -198,14 +201,14 @@ written : (old new : Writer) (l : Layout) (c : ByteList) (ws : List Write)
 written old new l c ws steps commit r a p =
     writes_passed old new l c a.me (shards_of l.names c) ws steps commit r refl a.shares a.some p
 
--- and what was settled behind them, by how many there are for each shard
-settled : (old new : Writer) (l m : Layout) (c : ByteList) (total : ℕ) (ws : List Write)
+-- and what was committed behind them, by how many there are for each shard
+others_committed : (old new : Writer) (l m : Layout) (c : ByteList) (total : ℕ) (ws : List Write)
     (steps : List (List Entry)) (counts : List ℕ) (r : Result (Unit {0}) SiteFault) → m ≡ l
     → AreRoutedTo l c ws steps → total ≡ length ws → counts ≡ map length steps
-    → Passed total old new (settle_all m c (λ s. get_or counts s 0) total) 0 r
+    → Passed total old new (commit_shards m c (λ s. get_or counts s 0) total) 0 r
     → Passed (length ws) old new (finish_course l c (shares_of l c ws) (length ws) true) 0 r
-settled old new l m c total ws steps counts r e a t k p =
-    settled_passed old new l m c (shards_of l.names c) total ws counts r e refl t
+others_committed old new l m c total ws steps counts r e a t k p =
+    committed_passed old new l m c (shards_of l.names c) total ws counts r e refl t
     (subst (AreCounts (shards_of l.names c) ws) (sym k)
     (shares_counts a.me (shards_of l.names c) ws steps a.shares)) p
 
@@ -234,23 +237,23 @@ pub update_committed : (old mid new : Writer) (l m : Layout) (c : ByteList) (tot
     → AreRoutedTo l c ws steps → total ≡ length ws → counts ≡ map length steps → commit ≡ true
     → Passed 0 old mid (writes_course l c (share_in steps) commit)
     (length_below (share_in steps) (shards_of l.names c)) (Ok tt)
-    → Passed total mid new (settle_all m c (λ s. get_or counts s 0) total) 0 (Ok tt)
+    → Passed total mid new (commit_shards m c (λ s. get_or counts s 0) total) 0 (Ok tt)
     → Answered old new (index_course l c ws commit) (Ok total)
 update_committed old mid new l m c total ws steps counts commit same a t k e p q =
     index_committed old mid new l c ws commit total e t
     (written old mid l c ws steps commit (Ok tt) a p)
-    (settled mid new l m c total ws steps counts (Ok tt) same a t k q)
+    (others_committed mid new l m c total ws steps counts (Ok tt) same a t k q)
 
 -- or the commit was refused
-pub update_unsettled : (old mid new : Writer) (l m : Layout) (c : ByteList) (total : ℕ)
+pub update_uncommitted : (old mid new : Writer) (l m : Layout) (c : ByteList) (total : ℕ)
     (ws : List Write) (steps : List (List Entry)) (counts : List ℕ) (commit : Bool)
     (fault : SiteFault) → m ≡ l → AreRoutedTo l c ws steps → total ≡ length ws
     → counts ≡ map length steps → commit ≡ true
     → Passed 0 old mid (writes_course l c (share_in steps) commit)
     (length_below (share_in steps) (shards_of l.names c)) (Ok tt)
-    → Passed total mid new (settle_all m c (λ s. get_or counts s 0) total) 0 (Err fault)
+    → Passed total mid new (commit_shards m c (λ s. get_or counts s 0) total) 0 (Err fault)
     → Refused 0 old new (index_course l c ws commit) fault
-update_unsettled old mid new l m c total ws steps counts commit fault same a t k e p q =
-    settle_refused old mid new l c ws commit fault e
+update_uncommitted old mid new l m c total ws steps counts commit fault same a t k e p q =
+    commit_refused old mid new l c ws commit fault e
     (written old mid l c ws steps commit (Ok tt) a p)
-    (settled mid new l m c total ws steps counts (Err fault) same a t k q)
+    (others_committed mid new l m c total ws steps counts (Err fault) same a t k q)

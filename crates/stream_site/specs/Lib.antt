@@ -3,3 +3,4 @@ pub mod Plains
 pub mod Sites
 pub mod Topics
 pub mod Spots
+pub mod Stores

@@ -31,5 +31,5 @@ pub record IsSite (s : Inside) : Type 0 where
   pub limits : AllByRecursion (λ (x : Shard). x.limit ≡ s.limit) s.shards.items
   pub own : AllByRecursion (λ (x : Shard). AreBy 1 x.entries) s.shards.items
   pub looks : length s.looks.items ≡ length s.shards.items + 1
-  pub noted : AllByRecursion (λ e. author_of (logged.Book e) ≡ 1) s.book.entries
+  pub book_own : AllByRecursion (λ e. author_of (logged.Book e) ≡ 1) s.book.entries
   pub topics : AllByRecursion (IsFitEntry s.names) s.book.entries

@@ -1,4 +1,4 @@
--- Where a call stands (own).
+-- Where a call is (own).
 use Rattle.std.specs.Prelude.{ℕ, ◌≡◌, List}
 use Rattle.tuple_values.specs.Document.{ByteList}
 use Rattle.tuple_values.specs.declared.names.NameShards.{NameShards}
@@ -11,7 +11,7 @@ use Rattle.stream_site.specs.declared.place.Spot.{Spot}
 abbrev pub full_there : Spot → SiteFault
 full_there at = ShardFull at.collection.now at.shard at.stand
 
--- the call stands at this shard of the collection, after so many of its writes
+-- the call is at this shard of the collection, after so many of its writes
 pub record IsSpot (names : List NameShards) (collection : ByteList) (shard stand : ℕ) (at : Spot)
     : Type 0 where
   pub collection_is : at.collection.now ≡ collection

@@ -29,7 +29,7 @@ fn with_part(alloc: Global, mut cut: Cut, at: &Spot, snapshot: Snapshot) -> Resu
     Ok(cut)
 }
 
-/// One look where the call stands; the part of that shard follows the cut.
+/// One look where the call is; the part of that shard follows the cut.
 fn look_part_over<T: Turns>(
     alloc: Global,
     site: &mut T,

@@ -1,8 +1,12 @@
 // The test of what a Store asks, for topics that deliver nowhere.
-ghost use Rattle.std.specs.Prelude.{◌≡◌, IfOk, IsTrue, slice_index};
+ghost use Rattle.std.specs.Prelude.{◌≡◌, ◌<◌, Decides, IfOk, IsTrue, slice_index};
+ghost use Rattle.shard_versions.specs.Histories.{top};
+ghost use Rattle.topic_book.specs.Fitness.{shards_of};
 ghost use Rattle.once_core.specs.Allowed.{AreReached, MayStore};
+ghost use Rattle.once_core.specs.Cells.{shard_history};
 ghost use Rattle.site_laws.specs.SiteCells.{histories_in};
 ghost use Rattle.stream_site.specs.Plains.{writer_of};
+ghost use Rattle.stream_site.specs.Stores.{MayStoreNowhere};
 
 use crate::place::{locate, width};
 use crate::{PlainSite, Turns};
@@ -17,15 +21,24 @@ fn number_at(numbers: &[u64], place: u16) -> u64
     numbers.get(usize::from(place)).copied().unwrap_or(0)
 }
 
+/// The top of the source's shard.
+fn top_at(alloc: Global, site: &PlainSite, src: &Text, shard: u16) -> Result<u64, Memory>
+    requires { shard < shards_of site.now.names src.now }
+    ensures { IfOk result (λ reached. reached ≡ top (shard_history site.now.names
+        (histories_in site.now.names (writer_of site.now).seen) src.now shard)) }
+{
+    let at = locate(site, src, shard, 0);
+    let shown = site.snapshot(alloc, at.cell)?;
+    Ok(shown.top())
+}
+
 /// Whether each number is at most the top of its shard.
 fn are_reached(alloc: Global, site: &PlainSite, src: &Text, upto: &[u64]) -> Result<bool, Memory>
-    ensures { IfOk result (λ fine. IsTrue fine → AreReached site.now.names
-        (histories_in site.now.names (writer_of site.now).seen) src.now upto.now) }
+    ensures { IfOk result (λ fine. Decides fine (AreReached site.now.names
+        (histories_in site.now.names (writer_of site.now).seen) src.now upto.now)) }
 {
     for shard in 0..width(site, src) {
-        let at = locate(site, src, shard, 0);
-        let shown = site.snapshot(alloc, at.cell)?;
-        if shown.top() < number_at(upto, shard) {
+        if top_at(alloc, site, src, shard)? < number_at(upto, shard) {
             return Ok(false);
         }
     }
@@ -40,7 +53,9 @@ pub fn may_store_nowhere(
     key: &TopicKey,
     upto: &Versions,
 ) -> Result<bool, Memory>
-    ensures { IfOk result (λ may. IsTrue may → MayStore site.now.names
+    ensures exact { IfOk result (λ may. Decides may (MayStoreNowhere site.now.names
+        (histories_in site.now.names (writer_of site.now).seen) key.now upto.now)) }
+    ensures allowed { IfOk result (λ may. IsTrue may → MayStore site.now.names
         (histories_in site.now.names (writer_of site.now).seen) key.now upto.now) }
 {
     let Some(binding) = site.bound(key) else {

@@ -3,14 +3,14 @@ ghost use Rattle.std.specs.Prelude.{◌≡◌, ◌<◌, ℕ, [], get_or, length}
 ghost use Rattle.topic_book.specs.Cells.{cell_of};
 ghost use Rattle.topic_book.specs.Fitness.{shards_of};
 ghost use Rattle.exchange_rules.specs.Calls.{Answered, Passed};
-ghost use Rattle.exchange_rules.specs.Rows.{commit_course, index_course, length_below, settle_all, writes_course};
+ghost use Rattle.exchange_rules.specs.Rows.{commit_course, index_course, length_below, commit_shards, writes_course};
 ghost use Rattle.exchange_rules.specs.Steps.{AreStorableWrites};
 ghost use Rattle.site_laws.specs.Duties.{IsFitStep};
 ghost use Rattle.stream_site.specs.Shares.{AreSteps, share_in};
 
 use crate::place::{locate, width};
 use crate::routing::{counts_of, route, take_step};
-use crate::step::{settle_shard_over, write_over};
+use crate::step::{commit_unless_over, write_over};
 use crate::{SiteFault, Turns};
 use shard_versions::Step;
 use std::alloc::Global;
@@ -26,8 +26,8 @@ fn count_at(counts: &[usize], place: u16) -> usize
     }
 }
 
-/// Settles each shard of the collection, but for those to which writes went.
-fn settle_all_over<T: Turns>(
+/// Commits each shard of the collection, but for those to which writes went.
+fn commit_shards_over<T: Turns>(
     alloc: Global,
     site: &mut T,
     collection: &Text,
@@ -35,7 +35,8 @@ fn settle_all_over<T: Turns>(
     stand: u64,
 ) -> Result<(), SiteFault>
     ensures course { Passed stand (T.writer site.old) (T.writer site.new)
-        (settle_all (T.layout site.old) collection.now (λ shard. get_or counts.now shard 0) stand)
+        (commit_shards (T.layout site.old) collection.now
+        (λ shard. get_or counts.now shard 0) stand)
         0 result }
     ensures layout { T.layout site.new ≡ T.layout site.old }
     ensures home { T.home site.new ≡ T.home site.old }
@@ -43,7 +44,7 @@ fn settle_all_over<T: Turns>(
     for shard in 0..width(site, collection) {
         let writes = count_at(counts, shard);
         let at = locate(site, collection, shard, stand);
-        settle_shard_over(alloc, site, &at, writes)?;
+        commit_unless_over(alloc, site, &at, writes)?;
     }
     Ok(())
 }
@@ -103,7 +104,7 @@ fn index_steps_over<T: Turns>(
     if !commit {
         return Ok(total);
     }
-    settle_all_over(alloc, site, collection, &counts, total)?;
+    commit_shards_over(alloc, site, collection, &counts, total)?;
     Ok(total)
 }
 
@@ -140,7 +141,7 @@ fn commit_steps_over<T: Turns>(
 {
     let shards = width(site, collection);
     site.make_room(usize::from(shards))?;
-    settle_all_over(alloc, site, collection, &[], 0)
+    commit_shards_over(alloc, site, collection, &[], 0)
 }
 
 /// The writes at the collection's shards, and with a commit a Mark on each shard where a write is

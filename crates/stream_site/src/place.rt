@@ -41,7 +41,7 @@ pub(crate) fn width<T: Turns>(site: &T, collection: &Text) -> u16
     shards_of(site.names(), collection.as_str())
 }
 
-/// Where a call stands: at a shard of a collection, with its cell, after so many of the call's
+/// Where a call is: at a shard of a collection, with its cell, after so many of the call's
 /// writes.
 #[derive(Clone, Copy)]
 pub(crate) struct Spot<'a> {
@@ -51,7 +51,7 @@ pub(crate) struct Spot<'a> {
     pub(crate) stand: u64,
 }
 
-/// A call that stands at the collection's shard, as a writer of the site finds it.
+/// A call at the collection's shard, as a writer of the site finds it.
 pub(crate) fn locate<'a, T: Turns>(
     site: &T,
     collection: &'a Text,

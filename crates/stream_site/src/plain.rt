@@ -262,7 +262,7 @@ impl PlainSite {
     }
 }
 
-/// How many entries stand in a cell: a shard's, or behind them the book's.
+/// How many entries a cell has: a shard's, or behind them the book's.
 fn entries_at(shards: &[ShardState], book: &BookState, cell: usize) -> u64
     requires { cell ≤ length shards.now }
     ensures { result ≡ length (get_or
@@ -362,7 +362,7 @@ impl Turns for PlainSite {
         self.book.is_raised(key, upto)
     }
 
-    fn note(&mut self, entry: BookEntry) -> Result<(), BookFault> {
+    fn append_entry(&mut self, entry: BookEntry) -> Result<(), BookFault> {
         let cell = self.shards.len() as u32;
         let from = self.book.len();
         match self.book.reserve(&entry) {

@@ -1,12 +1,12 @@
 // One step at a shard.
 ghost use Rattle.std.specs.Prelude.{◌≡◌, ◌<◌, ◌≤◌, ◌++◌, ◌∷◌, [], List, IfOk, get_or, length, if◌then◌else◌};
 ghost use Rattle.shard_versions.specs.Deliveries.{mark_by};
-ghost use Rattle.exchange_rules.specs.Calls.{Passed, PassedSent, Tells};
+ghost use Rattle.exchange_rules.specs.Calls.{Passed, PassedSent, IsFaultFor};
 ghost use Rattle.exchange_rules.specs.Cells.{Log, history_in};
 ghost use Rattle.exchange_rules.specs.Deliveries.{admitted_kinds, send_admitted, send_step};
 ghost use Rattle.exchange_rules.specs.Following.{Grows};
 ghost use Rattle.exchange_rules.specs.Rows.{HasCell};
-ghost use Rattle.exchange_rules.specs.Steps.{AreBy, closed, fitting, kinds_of, settle_course, settle_unless, settling, step_course, write_course, writes_in};
+ghost use Rattle.exchange_rules.specs.Steps.{AreBy, closed, fitting, kinds_of, commit_shard_course, commit_unless, commit_pending, step_course, write_course, writes_in};
 ghost use Rattle.site_laws.specs.Duties.{IsFitStep, MayDeliver, MayWrite};
 ghost use Rattle.stream_site.specs.Spots.{full_there};
 
@@ -16,9 +16,9 @@ use shard_versions::{Entry, ShardFault, Step};
 use std::alloc::Global;
 use tuple_values::{Memory, TryCopy};
 
-/// The refusal of a step where the call stands.
+/// The refusal of a step where the call is.
 fn full_at(alloc: Global, at: &Spot) -> SiteFault
-    ensures { Tells (full_there at.now) at.now.stand result }
+    ensures { IsFaultFor (full_there at.now) at.now.stand result }
 {
     let (shard, stand) = (at.shard, at.stand);
     match at.collection.copy(alloc) {
@@ -123,11 +123,11 @@ fn mark_step(alloc: Global, writer: u64) -> Result<Step, Memory>
 }
 
 /// A Mark where a write is pending in what was just seen of the cell.
-fn settle_seen_over<T: Turns>(alloc: Global, site: &mut T, at: &Spot) -> Result<(), SiteFault>
+fn commit_pending_over<T: Turns>(alloc: Global, site: &mut T, at: &Spot) -> Result<(), SiteFault>
     requires in_range { HasCell (T.layout site.old) (T.writer site.old) at.now.cell }
     requires holds { T.holds site.old at.now.cell }
     ensures course { Passed at.now.stand (T.writer site.old) (T.writer site.new)
-        (settling (T.layout site.old).limit at.now.cell (full_there at.now)
+        (commit_pending (T.layout site.old).limit at.now.cell (full_there at.now)
         (history_in (get_or (T.writer site.old).seen at.now.cell []))) 0 result }
     ensures layout { T.layout site.new ≡ T.layout site.old }
     ensures home { T.home site.new ≡ T.home site.old }
@@ -142,22 +142,22 @@ fn settle_seen_over<T: Turns>(alloc: Global, site: &mut T, at: &Spot) -> Result<
 }
 
 /// One look, and a Mark where a write is pending at it.
-fn settle_over<T: Turns>(alloc: Global, site: &mut T, at: &Spot) -> Result<(), SiteFault>
+fn commit_shard_over<T: Turns>(alloc: Global, site: &mut T, at: &Spot) -> Result<(), SiteFault>
     requires { HasCell (T.layout site.old) (T.writer site.old) at.now.cell }
     ensures course { Passed at.now.stand (T.writer site.old) (T.writer site.new)
-        (settle_course (T.layout site.old).limit at.now.cell
+        (commit_shard_course (T.layout site.old).limit at.now.cell
         (full_there at.now)) 0 result }
     ensures layout { T.layout site.new ≡ T.layout site.old }
     ensures home { T.home site.new ≡ T.home site.old }
 {
     match site.look(at.cell) {
-        Ok(()) => settle_seen_over(alloc, site, at),
+        Ok(()) => commit_pending_over(alloc, site, at),
         Err(_) => Err(SiteFault::OutOfMemory { stand: at.stand }),
     }
 }
 
-/// The shard is settled, unless so many writes went there.
-pub(crate) fn settle_shard_over<T: Turns>(
+/// The shard is committed, unless so many writes went there.
+pub(crate) fn commit_unless_over<T: Turns>(
     alloc: Global,
     site: &mut T,
     at: &Spot,
@@ -165,7 +165,7 @@ pub(crate) fn settle_shard_over<T: Turns>(
 ) -> Result<(), SiteFault>
     requires { HasCell (T.layout site.old) (T.writer site.old) at.now.cell }
     ensures course { Passed at.now.stand (T.writer site.old) (T.writer site.new)
-        (settle_unless (T.layout site.old).limit at.now.cell writes
+        (commit_unless (T.layout site.old).limit at.now.cell writes
         (full_there at.now)) 0 result }
     ensures layout { T.layout site.new ≡ T.layout site.old }
     ensures home { T.home site.new ≡ T.home site.old }
@@ -173,7 +173,7 @@ pub(crate) fn settle_shard_over<T: Turns>(
     if writes > 0 {
         return Ok(());
     }
-    settle_over(alloc, site, at)
+    commit_shard_over(alloc, site, at)
 }
 
 /// What of the step is admitted at one look, and a Mark; nothing where the step has no entry. The

@@ -126,7 +126,7 @@ fn a_commit_marks_pending_writes_alone(rt: HostRuntime) -> Result<(), Fail> {
 }
 
 #[test]
-fn an_update_with_commit_settles_the_other_shards(rt: HostRuntime) -> Result<(), Fail> {
+fn an_update_with_commit_commits_the_other_shards(rt: HostRuntime) -> Result<(), Fail> {
     let mut site = site_of(rt.alloc(), 1000)?;
     let first = update(&mut site, rt.alloc(), "2", None, false)?;
     let second = update(&mut site, rt.alloc(), "3", None, true)?;

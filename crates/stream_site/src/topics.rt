@@ -99,7 +99,7 @@ fn bind_new_over<T: Turns>(
 {
     let copy = key.copy(alloc)?;
     let by = site.number();
-    match site.note(BookEntry::Bind {
+    match site.append_entry(BookEntry::Bind {
         by,
         key: copy,
         binding,
@@ -236,7 +236,7 @@ fn store_seen_over<T: Turns>(
     }
     let key = key.copy(alloc)?;
     let by = site.number();
-    match site.note(BookEntry::Store { by, key, upto }) {
+    match site.append_entry(BookEntry::Store { by, key, upto }) {
         Ok(()) => {}
         Err(_) => return Err(SiteFault::OutOfMemory { stand: 0 }),
     }

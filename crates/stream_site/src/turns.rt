@@ -14,13 +14,13 @@ pub trait Turns {
     ghost use Rattle.topic_book.specs.States.{IsCauseOf, IsOpenTo};
     ghost use Rattle.once_core.specs.Allowed.{MayStore};
     ghost use Rattle.exchange_rules.specs.Bindings.{book_cell, book_seen};
-    ghost use Rattle.exchange_rules.specs.Cells.{deed_of, history_in, write};
+    ghost use Rattle.exchange_rules.specs.Cells.{payload_of, history_in, write};
     ghost use Rattle.exchange_rules.specs.Deliveries.{admitted_kinds};
     ghost use Rattle.exchange_rules.specs.Following.{Writer, cleared};
     ghost use Rattle.exchange_rules.specs.Primitives.{LooksAt, delivered, made};
     ghost use Rattle.exchange_rules.specs.Rows.{Layout, HasCell, shown_of};
     ghost use Rattle.exchange_rules.specs.Steps.{is_full, is_over, kinds_of};
-    ghost use Rattle.site_laws.specs.Duties.{MayDeliver, MayNote, MayWrite};
+    ghost use Rattle.site_laws.specs.Duties.{MayDeliver, MayAppendEntry, MayWrite};
     ghost use Rattle.site_laws.specs.SiteCells.{histories_in};
 
     /// Where the writer is: it stays there.
@@ -156,12 +156,12 @@ pub trait Turns {
             ≡ raises key.now (book_seen (layout self.now) (writer self.now)) upto.now };
 
     /// Adds the writer's entry right behind what it has seen of the book.
-    fn note(&mut self, entry: BookEntry) -> Result<(), BookFault>
+    fn append_entry(&mut self, entry: BookEntry) -> Result<(), BookFault>
         requires holds { holds self.old (book_cell (layout self.old).names) }
-        requires allowed { MayNote (layout self.old).names (writer self.old).me
+        requires allowed { MayAppendEntry (layout self.old).names (writer self.old).me
             (writer self.old).seen entry }
         ensures ok { OnOk result (writer self.new
-            ≡ made (writer self.old) (book_cell (layout self.old).names) (deed_of entry ∷ [])) }
+            ≡ made (writer self.old) (book_cell (layout self.old).names) (payload_of entry ∷ [])) }
         ensures opened { OnOk result (IsOpenTo (book_seen (layout self.old) (writer self.old)) entry) }
         ensures err { OnErr result (writer self.new ≡ writer self.old) }
         ensures cause { IfErr result

@@ -1,6 +1,6 @@
 use Rattle.exchange_rules.specs.Calls.{Answered}
 use Rattle.exchange_rules.specs.Rows.{commit_course}
-use Rattle.exchange_rules.proofs.StandLemmas.{answered_of}
+use Rattle.exchange_rules.proofs.AppendedLemmas.{answered_of}
 use Rattle.exchange_rules.proofs.StepLemmas.{nothing_done}
 use Rattle.stream_site.proofs.MayLemmas.{answered_from}
 use Rattle.stream_site.proofs.TestLemmas.{handed_on}
@@ -17,7 +17,7 @@ returns-in_err-make_room-clause-course g c =
 pub returns-clause-course : goal.returns-clause-course
 returns-clause-course g c =
     answered_from (g.T.Turns.writer c.args.site.now) (g.T.Turns.writer c.make_room.new.self)
-    (g.T.Turns.writer c.settle_all_over.new.site) (g.T.Turns.layout c.args.site.now)
+    (g.T.Turns.writer c.commit_shards_over.new.site) (g.T.Turns.layout c.args.site.now)
     (g.T.Turns.layout c.make_room.new.self) (λ l. commit_course l c.args.collection.now)
-    c.settle_all_over.result c.make_room.ensures.writer c.make_room.ensures.layout
-    (answered_of _ _ _ 0 c.settle_all_over.result c.settle_all_over.ensures.course)
+    c.commit_shards_over.result c.make_room.ensures.writer c.make_room.ensures.layout
+    (answered_of _ _ _ 0 c.commit_shards_over.result c.commit_shards_over.ensures.course)

@@ -1,11 +1,11 @@
 use Rattle.std.proofs.Common.{◌<◌, ◌≤◌, refl, ◌∙◌, subst, arith}
 use Rattle.topic_book.specs.Fitness.{shards_of}
-use Rattle.exchange_rules.specs.Calls.{Passed, Stands}
+use Rattle.exchange_rules.specs.Calls.{Passed, HasAppended}
 use Rattle.exchange_rules.specs.Rows.{each_shard, length_below, write_at, writes_course}
 use Rattle.exchange_rules.proofs.ShardLemmas.{all_left}
-use Rattle.exchange_rules.proofs.StandLemmas.{stands_none}
+use Rattle.exchange_rules.proofs.AppendedLemmas.{appended_none}
 use Rattle.stream_site.specs.Shares.{share_in}
-use Rattle.stream_site.proofs.IndexLemmas.{here_below, write_refused, write_stands, writes_end}
+use Rattle.stream_site.proofs.IndexLemmas.{here_below, write_refused, write_appended, writes_end}
 use Rattle.stream_site.proofs.MayLemmas.{fit_here}
 use Rattle.stream_site.proofs.TakenLemmas.{left_after, left_all, left_here, taken}
 use Rattle.stream_site.proofs.TestLemmas.{handed_on}
@@ -22,8 +22,8 @@ loop-shard-init g c =
       home = refl;
       left = left_all c.args.steps.now.items;
       counted = refl;
-      reached = subst (λ k. Stands w w (each_shard at 0 n) (each_shard at 0 k) 0) (all_left n)
-          (stands_none w (each_shard at 0 n));
+      reached = subst (λ k. HasAppended w w (each_shard at 0 n) (each_shard at 0 k) 0) (all_left n)
+          (appended_none w (each_shard at 0 n));
     }
 
 pub take_step-step-requires : goal.take_step-step-requires
@@ -81,7 +81,7 @@ loop-shard-preserved g c =
       home = c.in_ok-write_over.ensures.home ∙ c.loop-shard.invariant.home;
       left = left_after _ _ _ _ c.loop-shard.invariant.left c.take_step-step.ensures.rest;
       counted = t.next;
-      reached = write_stands _ _ (g.T.Turns.writer c.write_over.new.site)
+      reached = write_appended _ _ (g.T.Turns.writer c.write_over.new.site)
           (g.T.Turns.layout c.args.site.now) _ c.args.collection.now share c.args.commit _ _ _ _ _ _
           lt c.loop-shard.invariant.same c.locate-at.ensures.spot t.kinds
           c.loop-shard.invariant.counted t.writes c.loop-shard.invariant.reached

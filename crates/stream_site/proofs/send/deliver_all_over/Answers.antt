@@ -1,12 +1,12 @@
 use Rattle.std.proofs.Common.{◌≡◌, ◌<◌, ◌≤◌, refl, ap, ◌∙◌, subst, arith}
 use Rattle.topic_book.specs.Fitness.{shards_of}
-use Rattle.exchange_rules.specs.Calls.{PassedSent, Stands}
+use Rattle.exchange_rules.specs.Calls.{PassedSent, HasAppended}
 use Rattle.exchange_rules.specs.Deliveries.{send_shards}
 use Rattle.exchange_rules.specs.Rows.{length_below}
 use Rattle.exchange_rules.specs.Steps.{kinds_of}
 use Rattle.exchange_rules.proofs.DeliveryLemmas.{sends_end}
 use Rattle.exchange_rules.proofs.ShardLemmas.{all_left}
-use Rattle.exchange_rules.proofs.StandLemmas.{stands_none}
+use Rattle.exchange_rules.proofs.AppendedLemmas.{appended_none}
 use Rattle.stream_site.specs.Shares.{share_in}
 use Rattle.stream_site.proofs.IndexLemmas.{here_below}
 use Rattle.stream_site.proofs.SendLemmas.{allowed_here, sent_fits, shard_refused, shard_sent}
@@ -25,7 +25,7 @@ loop-shard-init g c =
       home = refl;
       left = left_all c.args.steps.now.items;
       few = omega arith;
-      reached = subst (λ k. Stands w w (p n) (p k) 0) (all_left n) (stands_none w (p n));
+      reached = subst (λ k. HasAppended w w (p n) (p k) 0) (all_left n) (appended_none w (p n));
     }
 
 pub take_step-step-requires : goal.take_step-step-requires

@@ -1,7 +1,7 @@
 -- The steps so far are delivered, and the others are as they were.
 use Rattle.std.proofs.Common.{◌≡◌, ◌-◌, ◌≤◌}
 use Rattle.topic_book.specs.Fitness.{shards_of}
-use Rattle.exchange_rules.specs.Calls.{Stands}
+use Rattle.exchange_rules.specs.Calls.{HasAppended}
 use Rattle.exchange_rules.specs.Deliveries.{send_shards}
 use Rattle.exchange_rules.specs.Rows.{length_below}
 use Rattle.stream_site.specs.Shares.{AreLeft, share_in}
@@ -17,7 +17,7 @@ invariant-loop-shard g l =
       home : g.T.Turns.home l.site ≡ g.T.Turns.home l.fn.site;
       left : AreLeft l.fn.steps.items l.steps.items l.shard;
       few : l.admitted ≤ length_below share l.shard;
-      reached : Stands (g.T.Turns.writer l.fn.site) (g.T.Turns.writer l.site)
+      reached : HasAppended (g.T.Turns.writer l.fn.site) (g.T.Turns.writer l.site)
           (send_shards layout l.dest share 0 0 n)
           (send_shards layout l.dest share l.admitted l.shard (n - l.shard)) l.admitted;
     }

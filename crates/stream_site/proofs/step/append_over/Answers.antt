@@ -2,21 +2,21 @@ use Rattle.std.proofs.Common.{[], get_or, ap}
 use Rattle.std.specs.Prelude.{Err}
 use Rattle.exchange_rules.specs.Cells.{history_in}
 use Rattle.exchange_rules.specs.Steps.{kinds_of}
-use Rattle.exchange_rules.proofs.StepLemmas.{fitting_stands, refused_told, nothing_done}
+use Rattle.exchange_rules.proofs.StepLemmas.{fitting_appended, refused_for, nothing_done}
 use Rattle.stream_site.specs.Spots.{full_there}
 use Rattle.stream_site.proofs.TestLemmas.{not_true, ok_is_no_err}
 use Rattle.stream_site.proofs.step.append_over.Goals as goal
 
 pub returns-in-Ok-clause-course : goal.returns-in-Ok-clause-course
 returns-in-Ok-clause-course g c =
-    fitting_stands (g.T.Turns.writer c.args.site.now) (g.T.Turns.writer c.seal.new.self)
+    fitting_appended (g.T.Turns.writer c.args.site.now) (g.T.Turns.writer c.seal.new.self)
     (g.T.Turns.layout c.args.site.now).limit c.args.at.now.cell _ _ _ c.requires.in_range.seen
     (not_true _ (λ full. ok_is_no_err _ _ (c.in-Ok.ensures.shard_full.1 full)))
     c.in-Ok.ensures.ok
 
 pub returns-in-Err-ShardFull-clause-course : goal.returns-in-Err-ShardFull-clause-course
 returns-in-Err-ShardFull-clause-course g c =
-    refused_told c.args.at.now.stand (g.T.Turns.writer c.args.site.now)
+    refused_for c.args.at.now.stand (g.T.Turns.writer c.args.site.now)
     (g.T.Turns.writer c.seal.new.self) (g.T.Turns.layout c.args.site.now).limit c.args.at.now.cell
     (kinds_of c.args.step) (full_there c.args.at.now)
     (history_in (get_or (g.T.Turns.writer c.args.site.now).seen c.args.at.now.cell []))

@@ -4,10 +4,10 @@ use Rattle.std.specs.Prelude.{Err}
 use Rattle.exchange_rules.specs.Cells.{history_in}
 use Rattle.exchange_rules.specs.Deliveries.{admitted_kinds}
 use Rattle.exchange_rules.specs.Steps.{kinds_of}
-use Rattle.exchange_rules.proofs.DeliveryLemmas.{admitted_kinds-few, admitted_kinds-writes, deliver_refused, deliver_stands}
+use Rattle.exchange_rules.proofs.DeliveryLemmas.{admitted_kinds-few, admitted_kinds-writes, deliver_refused, deliver_appended}
 use Rattle.exchange_rules.proofs.StepLemmas.{nothing_done}
 use Rattle.stream_site.specs.Spots.{full_there}
-use Rattle.stream_site.proofs.SendLemmas.{sent_told}
+use Rattle.stream_site.proofs.SendLemmas.{sent_as}
 use Rattle.stream_site.proofs.step.deliver_seen_over.Goals as goal
 
 pub returns-in-Ok-clause-course : goal.returns-in-Ok-clause-course
@@ -15,9 +15,10 @@ returns-in-Ok-clause-course g c =
     let w = g.T.Turns.writer c.args.site.now in
     let h = history_in (get_or w.seen c.args.at.now.cell []) in
     let ks = admitted_kinds h (kinds_of c.args.step) in
-    sent_told w (g.T.Turns.writer c.deliver.new.self) _ c.in-Ok.admitted (length ks)
+    sent_as w (g.T.Turns.writer c.deliver.new.self) _ c.in-Ok.admitted (length ks)
     c.in-Ok.ensures.count
-    (deliver_stands w (g.T.Turns.writer c.deliver.new.self) (g.T.Turns.layout c.args.site.now).limit
+    (deliver_appended w (g.T.Turns.writer c.deliver.new.self)
+    (g.T.Turns.layout c.args.site.now).limit
     c.args.at.now.cell (full_there c.args.at.now) h ks c.requires.in_range.seen
     c.in-Ok.ensures.fits
     (admitted_kinds-writes h (kinds_of c.args.step)) c.in-Ok.ensures.ok)

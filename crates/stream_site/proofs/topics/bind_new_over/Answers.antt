@@ -2,7 +2,7 @@ use Rattle.std.proofs.Common.{refl}
 use Rattle.exchange_rules.specs.Bindings.{bind_new, book_seen}
 use Rattle.exchange_rules.specs.Calls.{Passed}
 use Rattle.exchange_rules.proofs.StepLemmas.{nothing_done}
-use Rattle.stream_site.proofs.TopicLemmas.{bound_refused, bound_stands, bound_stopped, may_bind}
+use Rattle.stream_site.proofs.TopicLemmas.{bound_refused, bound_appended, bound_stopped, may_bind}
 use Rattle.stream_site.proofs.TestLemmas.{handed_on}
 use Rattle.stream_site.proofs.topics.bind_new_over.Goals as goal
 
@@ -13,8 +13,8 @@ returns-in_err-copy-clause-course g c =
     let course = bind_new l.names c.args.key.now c.args.binding (book_seen l w) in
     handed_on (Passed 0 w w course 0) _ _ c.from_residual.ensures.1 (nothing_done 0 w w course refl)
 
-pub note-requires-clause-allowed : goal.note-requires-clause-allowed
-note-requires-clause-allowed g c =
+pub append_entry-requires-clause-allowed : goal.append_entry-requires-clause-allowed
+append_entry-requires-clause-allowed g c =
     let w = g.T.Turns.writer c.args.site.now in
     may_bind (g.T.Turns.layout c.args.site.now).names w.me c.number-by.result w.seen
     c.args.key.now c.in_ok-copy.copy c.args.binding c.number-by.ensures c.in_ok-copy.ensures
@@ -22,7 +22,7 @@ note-requires-clause-allowed g c =
 
 pub returns-in-Err-clause-course : goal.returns-in-Err-clause-course
 returns-in-Err-clause-course g c =
-    bound_refused (g.T.Turns.writer c.args.site.now) (g.T.Turns.writer c.note.new.self)
+    bound_refused (g.T.Turns.writer c.args.site.now) (g.T.Turns.writer c.append_entry.new.self)
     (g.T.Turns.layout c.args.site.now).names c.number-by.result c.args.key.now c.in_ok-copy.copy
     c.args.binding
     (book_seen (g.T.Turns.layout c.args.site.now) (g.T.Turns.writer c.args.site.now))
@@ -31,8 +31,8 @@ returns-in-Err-clause-course g c =
 
 pub returns-clause-course : goal.returns-clause-course
 returns-clause-course g c =
-    bound_stands (g.T.Turns.writer c.args.site.now) (g.T.Turns.writer c.note.new.self)
-    (g.T.Turns.layout c.args.site.now) (g.T.Turns.layout c.note.new.self) c.number-by.result
+    bound_appended (g.T.Turns.writer c.args.site.now) (g.T.Turns.writer c.append_entry.new.self)
+    (g.T.Turns.layout c.args.site.now) (g.T.Turns.layout c.append_entry.new.self) c.number-by.result
     c.args.key.now c.in_ok-copy.copy c.args.binding c.in_ok-upto.upto
     c.in-Ok.ensures.layout c.requires.in_range c.in_ok-copy.ensures c.requires.unbound
     c.in-Ok.ensures.ok c.in-Ok.ensures.opened c.in_ok-upto.ensures
@@ -41,7 +41,7 @@ pub returns-in_err-upto-clause-course : goal.returns-in_err-upto-clause-course
 returns-in_err-upto-clause-course g c =
     let l = g.T.Turns.layout c.args.site.now in
     let w = g.T.Turns.writer c.args.site.now in
-    let new = g.T.Turns.writer c.note.new.self in
+    let new = g.T.Turns.writer c.append_entry.new.self in
     handed_on
     (Passed 0 w new (bind_new l.names c.args.key.now c.args.binding (book_seen l w)) 0)
     _ _ c.from_residual-in_err-upto.ensures.1

@@ -4,7 +4,7 @@ use Rattle.exchange_rules.specs.Calls.{Passed}
 use Rattle.exchange_rules.proofs.BindingLemmas.{store_nothing}
 use Rattle.exchange_rules.proofs.StepLemmas.{nothing_done}
 use Rattle.stream_site.proofs.TestLemmas.{handed_on}
-use Rattle.stream_site.proofs.TopicLemmas.{may_store, stored_stands}
+use Rattle.stream_site.proofs.TopicLemmas.{may_store, stored_appended}
 use Rattle.stream_site.proofs.topics.store_seen_over.Goals as goal
 
 pub returns-then-not-raises-clause-course : goal.returns-then-not-raises-clause-course
@@ -21,8 +21,8 @@ returns-in_err-key-clause-course g c =
     let course = store_seen l.names c.args.key.now c.args.upto (book_seen l w) in
     handed_on (Passed 0 w w course 0) _ _ c.from_residual.ensures.1 (nothing_done 0 w w course refl)
 
-pub note-requires-clause-allowed : goal.note-requires-clause-allowed
-note-requires-clause-allowed g c =
+pub append_entry-requires-clause-allowed : goal.append_entry-requires-clause-allowed
+append_entry-requires-clause-allowed g c =
     let w = g.T.Turns.writer c.args.site.now in
     may_store (g.T.Turns.layout c.args.site.now).names w.me c.number-by.result w.seen
     c.args.key.now c.in_ok-key.key c.args.upto c.number-by.ensures c.in_ok-key.ensures
@@ -32,11 +32,12 @@ pub returns-clause-course : goal.returns-clause-course
 returns-clause-course g c =
     let l = g.T.Turns.layout c.args.site.now in
     let w = g.T.Turns.writer c.args.site.now in
-    stored_stands w (g.T.Turns.writer c.note.new.self) l.names c.number-by.result c.args.key.now
+    stored_appended w (g.T.Turns.writer c.append_entry.new.self) l.names c.number-by.result
+    c.args.key.now
     c.in_ok-key.key c.args.upto (book_seen l w) (sym c.raises.ensures ∙ c.if-not-raises.false)
     c.requires.in_range c.in_ok-key.ensures c.in-Ok.ensures.ok
 
 pub returns-in-Err-clause-course : goal.returns-in-Err-clause-course
 returns-in-Err-clause-course g c =
-    nothing_done 0 (g.T.Turns.writer c.args.site.now) (g.T.Turns.writer c.note.new.self) _
+    nothing_done 0 (g.T.Turns.writer c.args.site.now) (g.T.Turns.writer c.append_entry.new.self) _
     c.in-Err.ensures.err

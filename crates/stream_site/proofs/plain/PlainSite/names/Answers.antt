@@ -12,4 +12,4 @@ returns-clause-alone c =
     (ap (λ (p : Plain). p.shards) c.self.view_is)
     c.self.invariant.own
     (subst (AllByRecursion (λ e. author_of (logged.Book e) ≡ 1))
-    (ap (λ (p : Plain). p.book) c.self.view_is) c.self.invariant.noted)
+    (ap (λ (p : Plain). p.book) c.self.view_is) c.self.invariant.book_own)

@@ -22,6 +22,7 @@ invariant_of-result c =
       limits = empty.limits;
       own = empty_own (cells_in c.as_slice.result.now) c.in_ok-shards.shards.items empty.entries;
       looks = omega (arith, zeros, c.len-2.ensures, few);
-      noted = subst (AllByRecursion (λ e. author_of (logged.Book e) ≡ 1)) (sym c.empty.ensures) tt;
+      book_own = subst (AllByRecursion (λ e. author_of (logged.Book e) ≡ 1))
+          (sym c.empty.ensures) tt;
       topics = subst (AllByRecursion (IsFitEntry c.args.names)) (sym c.empty.ensures) tt;
     }

@@ -1,14 +1,14 @@
 use Rattle.std.proofs.Common.{[], get_or, refl, sym, ◌∙◌}
 use Rattle.exchange_rules.specs.Cells.{history_in}
-use Rattle.exchange_rules.proofs.StepLemmas.{nothing_done, settling_passed, settling_nothing}
+use Rattle.exchange_rules.proofs.StepLemmas.{nothing_done, commit_pending_passed, commit_pending_nothing}
 use Rattle.stream_site.specs.Spots.{full_there}
 use Rattle.stream_site.proofs.MayLemmas.{may_mark}
-use Rattle.stream_site.proofs.step.settle_seen_over.Goals as goal
+use Rattle.stream_site.proofs.step.commit_pending_over.Goals as goal
 
 pub returns-then-not-is_pending-clause-course : goal.returns-then-not-is_pending-clause-course
 returns-then-not-is_pending-clause-course g c =
     let w = g.T.Turns.writer c.args.site.now in
-    settling_nothing w (g.T.Turns.layout c.args.site.now).limit c.args.at.now.cell
+    commit_pending_nothing w (g.T.Turns.layout c.args.site.now).limit c.args.at.now.cell
     (full_there c.args.at.now)
     (history_in (get_or w.seen c.args.at.now.cell []))
     (sym c.is_pending.ensures ∙ c.if-not-is_pending.true)
@@ -16,7 +16,7 @@ returns-then-not-is_pending-clause-course g c =
 pub returns-in-Ok-clause-course : goal.returns-in-Ok-clause-course
 returns-in-Ok-clause-course g c =
     let w = g.T.Turns.writer c.args.site.now in
-    settling_passed c.args.at.now.stand w (g.T.Turns.writer c.append_over.new.site)
+    commit_pending_passed c.args.at.now.stand w (g.T.Turns.writer c.append_over.new.site)
     (g.T.Turns.layout c.args.site.now).limit c.args.at.now.cell
     (full_there c.args.at.now)
     (history_in (get_or w.seen c.args.at.now.cell [])) c.in-Ok.step c.number.result

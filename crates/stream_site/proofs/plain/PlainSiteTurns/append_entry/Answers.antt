@@ -3,14 +3,14 @@ use Rattle.std.proofs.lemmas.List.{length-map}
 use Rattle.topic_book.specs.Cells.{cells_in}
 use Rattle.topic_book.specs.Fitness.{MayFollow}
 use Rattle.topic_book.specs.States.{IsCauseOf, IsOpenTo}
-use Rattle.exchange_rules.specs.Cells.{deed_of}
+use Rattle.exchange_rules.specs.Cells.{payload_of}
 use Rattle.exchange_rules.specs.Primitives.{made}
 use Rattle.stream_site.specs.Plains.{Plain, writer_of}
 use Rattle.stream_site.specs.Sites.{plain_in}
 use Rattle.stream_site.proofs.PlainLemmas.{histories_of}
-use Rattle.stream_site.proofs.PlainBookLemmas.{plain_book, plain_noted}
-use Rattle.stream_site.proofs.TopicLemmas.{plain_note}
-use Rattle.stream_site.proofs.plain.PlainSiteTurns.note.Goals as goal
+use Rattle.stream_site.proofs.PlainBookLemmas.{plain_book, plain_appended}
+use Rattle.stream_site.proofs.TopicLemmas.{plain_appendable}
+use Rattle.stream_site.proofs.plain.PlainSiteTurns.append_entry.Goals as goal
 
 pub returns-in-Err-clause-cause : goal.returns-in-Err-clause-cause
 returns-in-Err-clause-cause c =
@@ -21,14 +21,14 @@ returns-in-Err-clause-cause c =
 pub append-requires-clause-room : goal.append-requires-clause-room
 append-requires-clause-room c =
     c.in-Ok.ensures.room
-    (plain_note c.self.inside.shards.items (plain_in c.self.inside) c.args.self.now
+    (plain_appendable c.self.inside.shards.items (plain_in c.self.inside) c.args.self.now
     c.self.view_is refl c.self.invariant.counted c.self.invariant.topics c.args.entry
     c.requires.allowed).follows
 
 pub append-requires-clause-follows : goal.append-requires-clause-follows
 append-requires-clause-follows c =
     subst (λ b. MayFollow b c.args.entry) (sym c.in-Ok.ensures.entries)
-    (plain_note c.self.inside.shards.items (plain_in c.self.inside) c.args.self.now
+    (plain_appendable c.self.inside.shards.items (plain_in c.self.inside) c.args.self.now
     c.self.view_is refl c.self.invariant.counted c.self.invariant.topics c.args.entry
     c.requires.allowed).follows
 
@@ -42,7 +42,8 @@ pub returns-clause-ok : goal.returns-clause-ok
 returns-clause-ok c =
     let now = plain_in c.self.inside in
     let shards = c.self.inside.shards.items in
-    let noted = plain_note shards now c.args.self.now c.self.view_is refl c.self.invariant.counted
+    let appendable = plain_appendable shards now c.args.self.now c.self.view_is refl
+    c.self.invariant.counted
     c.self.invariant.topics c.args.entry c.requires.allowed in
     let size : length (histories_of shards) ≡ length shards = simp length-map in
     let long = c.self.inside.shards.ok.0 in
@@ -58,9 +59,10 @@ returns-clause-ok c =
     let own = c.push_reserved.ensures.items
     ∙ ap (λ o. o ++ record { cell = c.len-cell.result; from = c.len-from.result; count = 1 } ∷ [])
     c.in-Ok-reserve.ensures.items in
-    let done = plain_noted now c.append.new.self.entries c.args.entry c.len-cell.result
-    c.len-from.result c.push_reserved.new.self.items at noted.own after c.len-from.ensures.count
+    let done = plain_appended now c.append.new.self.entries c.args.entry c.len-cell.result
+    c.len-from.result c.push_reserved.new.self.items at appendable.own after
+    c.len-from.ensures.count
     own in
     subst (λ (x : Plain). writer_of new
-    ≡ made (writer_of x) (cells_in x.names) (deed_of c.args.entry ∷ [])) c.self.view_is
-    (done ∙ ap (λ n. made (writer_of now) n (deed_of c.args.entry ∷ [])) cell)
+    ≡ made (writer_of x) (cells_in x.names) (payload_of c.args.entry ∷ [])) c.self.view_is
+    (done ∙ ap (λ n. made (writer_of now) n (payload_of c.args.entry ∷ [])) cell)
