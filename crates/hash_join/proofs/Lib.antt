@@ -1,0 +1,3 @@
+mod BucketLemmas
+mod HeldLemmas
+mod TableLemmas

@@ -1,0 +1,4 @@
+pub mod Buckets
+pub mod HashState
+pub mod Held
+pub mod JoinKeys

@@ -1,0 +1,11 @@
+//! Joins of two inputs in any order, by a table of the second one.
+#![tactic(auto)]
+
+mod held;
+mod join;
+mod key_pairs;
+mod table;
+#[cfg(test)]
+mod tests;
+
+pub use join::HashJoinKernel;
