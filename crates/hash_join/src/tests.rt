@@ -67,14 +67,16 @@ fn pair(alloc: Global, left: &str, right: &str) -> Result<OnPair, Memory> {
     Ok(OnPair { left, right })
 }
 
-// For each tuple that is given the mark of the left one, and the mark that both have.
-fn told(alloc: Global, outer: bool, lefts: &[Row], rights: &[Row]) -> Result<String, Fail> {
+fn on_of(alloc: Global) -> Result<OnSpec, Fail> {
     let mut on = OnSpec::new(alloc);
     on.push(pair(alloc, "a", "x")?)?;
     on.push(pair(alloc, "b", "y")?)?;
-    let mut kernel = HashJoinKernel::make(alloc, outer, &on)?;
-    let mut lefts = input(alloc, ["a", "b", "left"], lefts)?;
-    let mut rights = input(alloc, ["x", "y", "right"], rights)?;
+    Ok(on)
+}
+
+// For each tuple that a kernel gives the mark of the left one, and the mark that both have.
+fn given<K: Kernel>(alloc: Global, kernel: K, lefts: Input, rights: Input) -> Result<String, Fail> {
+    let (mut kernel, mut lefts, mut rights) = (kernel, lefts, rights);
     let mut told = String::new(alloc);
     for _ in 0..100 {
         match kernel.ask()? {
@@ -88,6 +90,13 @@ fn told(alloc: Global, outer: bool, lefts: &[Row], rights: &[Row]) -> Result<Str
         }
     }
     Ok(told)
+}
+
+fn joined(alloc: Global, outer: bool, lefts: &[Row], rights: &[Row]) -> Result<String, Fail> {
+    let kernel = HashJoinKernel::make(alloc, outer, &on_of(alloc)?)?;
+    let lefts = input(alloc, ["a", "b", "left"], lefts)?;
+    let rights = input(alloc, ["x", "y", "right"], rights)?;
+    given(alloc, kernel, lefts, rights)
 }
 
 // Left and right tuples, and what an inner and an outer join give of them: keys that are repeated on
@@ -160,11 +169,9 @@ const JOINED: [(&[Row], &[Row], &str, &str); 7] = [
 fn left_tuples_meet_the_right_ones_of_their_values(rt: HostRuntime) -> Result<(), Fail> {
     let alloc = rt.alloc();
     for (lefts, rights, inner, outer) in JOINED {
-        let given = (
-            told(alloc, false, lefts, rights)?,
-            told(alloc, true, lefts, rights)?,
-        );
-        assert_eq!(rt; (given.0.as_str(), given.1.as_str()), (inner, outer));
+        let told = joined(alloc, false, lefts, rights)?;
+        let others = joined(alloc, true, lefts, rights)?;
+        assert_eq!(rt; (told.as_str(), others.as_str()), (inner, outer));
     }
     Ok(())
 }

@@ -16,7 +16,8 @@ returns-in-Some c =
     c.into_vec-key.ensures
     (added_under (λ k. k.items) (λ b. b.items) old new c.into_vec-key.result.items c.args.right
     c.push.new.self ((c.get_mut.follows.holds c.push.new.self).3 (search rules))
-    (c.in_ok-push.ensures.items ∙ ap (λ (w : List Doc). w ++ c.args.right ∷ []) had))
+    (◌∙◌ {A = List Doc} c.in_ok-push.ensures.items
+    (ap (λ (w : List Doc). w ++ c.args.right ∷ []) had)))
 
 pub returns : goal.returns
 returns c =
