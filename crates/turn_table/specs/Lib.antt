@@ -5,3 +5,4 @@ pub mod Steps
 pub mod Moments
 pub mod Carried
 pub mod Calls
+pub mod Tallies
