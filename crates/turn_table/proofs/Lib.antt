@@ -1,0 +1,15 @@
+pub mod ListLemmas
+pub mod HistoryLemmas
+pub mod KnowledgeLemmas
+pub mod CarriedLemmas
+pub mod MoveLemmas
+pub mod TryLemmas
+pub mod LookLemmas
+pub mod SealLemmas
+pub mod GiveLemmas
+pub mod DealLemmas
+pub mod GatherLemmas
+pub mod CloseLemmas
+pub mod StartLemmas
+pub mod MomentLemmas
+pub mod TallyLemmas

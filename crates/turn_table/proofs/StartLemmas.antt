@@ -1,0 +1,216 @@
+-- The rule holds at the start.
+use Rattle.std.proofs.Common.{ℕ, zero, suc, ◌+◌, ◌*◌, ◌≡◌, ◌≢◌, ◌<◌, List, [], ◌∷◌, ◌++◌, map, length, get_or, replicate, sym, refl, ap, ◌∙◌, subst, inl, arith, Option, Some, None, append_assoc}
+use Rattle.std.specs.Prelude.{All, AllPairs, Contains, slice_get}
+use Rattle.std.proofs.lemmas.List.Elements.{All-head, All-nil, All-tail, All-weaker}
+use mathlib.Core.Option.{some, some-ne-none, some-injective}
+use mathlib.Core.List.{map-append}
+use lib.ListN.{get_elem?, length-replicate, length-map}
+use Rattle.atomic_table.specs.Table.{opening}
+use Rattle.atomic_table.proofs.Lists.{at_map}
+use Rattle.turn_table.specs.declared.knowledge.Known.{Known}
+use Rattle.turn_table.specs.declared.knowledge.View.{View}
+use Rattle.turn_table.specs.Histories.{at, words_of, GrewBy}
+use Rattle.turn_table.specs.Knowledge.{dealt, fresh, hand, passes_of, IsWide}
+use Rattle.turn_table.specs.Rule.{IsPass, Kept}
+use Rattle.turn_table.proofs.CarriedLemmas.{get_or-replicate}
+use Rattle.turn_table.proofs.HistoryLemmas.{grown-self}
+use Rattle.turn_table.proofs.KnowledgeLemmas.{of_dealt, passes_of-dealt}
+use Rattle.turn_table.proofs.ListLemmas.{found_at, inside, only, place_of, read_at}
+
+words_of-push : {E : Type 0} (hs : List (List E)) (h : List E)
+    → words_of (hs ++ h ∷ []) ≡ words_of hs ++ 0 ∷ length h ∷ []
+words_of-push [] h = refl
+words_of-push (x ∷ xs) h = ap (λ l. 0 ∷ length x ∷ l) (words_of-push xs h)
+
+pub length-words_of : {E : Type 0} (hs : List (List E)) → length (words_of hs) ≡ 2 * length hs
+length-words_of [] = refl
+length-words_of (x ∷ xs) = let t = length-words_of xs in omega arith
+
+-- the words of one more cell
+pub laid : {C E : Type 0} (f : C → List E) (ys : List C) (y : C) (ws ws' ws'' : List ℕ) (n : ℕ)
+    → ws ≡ 0 ∷ words_of (map f ys) → ws' ≡ ws ++ 0 ∷ [] → n ≡ length (f y)
+    → ws'' ≡ ws' ++ n ∷ [] → ws'' ≡ 0 ∷ words_of (map f (ys ++ y ∷ []))
+laid f ys y ws ws' ws'' n e e' en e'' =
+    e'' ∙ (ap (λ l. l ++ n ∷ []) e' ∙ (append_assoc ws (0 ∷ []) (n ∷ [])
+    ∙ (ap (λ l. l ++ 0 ∷ n ∷ []) e ∙ (ap (λ m. 0 ∷ (words_of (map f ys) ++ 0 ∷ m ∷ [])) en
+    ∙ (ap (λ l. 0 ∷ l) (sym (words_of-push (map f ys) (f y)))
+    ∙ ap (λ l. 0 ∷ words_of l) (sym (map-append f ys (y ∷ []))))))))
+
+-- the slots of one more cell
+pub slots_laid : {C : Type 0} (ys : List C) (y : C) (ss ss' : List (Option C))
+    → ss ≡ map Some ys → ss' ≡ ss ++ Some y ∷ [] → ss' ≡ map Some (ys ++ y ∷ [])
+slots_laid ys y ss ss' e e' =
+    e' ∙ (ap (λ l. l ++ Some y ∷ []) e ∙ sym (map-append Some ys (y ∷ [])))
+
+turn_word : {E : Type 0} (hs : List (List E)) (c : ℕ)
+    → get_or (0 ∷ words_of hs) (suc (c + c)) 0 ≡ 0
+turn_word [] c = refl
+turn_word (x ∷ xs) zero = refl
+turn_word (x ∷ xs) (suc c) =
+    let t = turn_word xs c in
+    let P : ℕ → Type 0 = λ n. get_or (0 ∷ 0 ∷ length x ∷ words_of xs) n 0 ≡ 0 in
+    let same : suc (suc (suc (c + c))) ≡ suc (suc c + suc c) = omega arith in subst P same t
+
+length_word : {E : Type 0} (hs : List (List E)) (c : ℕ) → c < length hs
+    → get_or (0 ∷ words_of hs) (suc (suc (c + c))) 0 ≡ length (at hs c)
+length_word [] c h = absurd (omega arith)
+length_word (x ∷ xs) zero h = refl
+length_word (x ∷ xs) (suc c) h =
+    let t = length_word xs c (omega arith) in
+    let P : ℕ → Type 0 = λ n.
+    get_or (0 ∷ 0 ∷ length x ∷ words_of xs) n 0 ≡ length (at xs c) in
+    let same : suc (suc (suc (suc (c + c)))) ≡ suc (suc (suc c + suc c)) = omega arith in
+    subst P same t
+
+-- numbers that differ stand at one place each
+same_place : (xs : List ℕ) → AllPairs (λ m n. m ≢ n) xs → (i j m : ℕ)
+    → get_elem? xs i ≡ some m → get_elem? xs j ≡ some m → i ≡ j
+same_place [] differ i j m a b = absurd (some-ne-none m (sym a))
+same_place (x ∷ xs) differ zero zero m a b = refl
+same_place (x ∷ xs) differ zero (suc j) m a b =
+    let low = inside xs j m b in
+    absurd (differ 0 (suc j) m (omega arith) (omega arith)
+    (some-injective x m a ∙ sym (read_at xs j m m b)))
+same_place (x ∷ xs) differ (suc i) zero m a b =
+    let low = inside xs i m a in
+    absurd (differ 0 (suc i) m (omega arith) (omega arith)
+    (some-injective x m b ∙ sym (read_at xs i m m a)))
+same_place (x ∷ xs) differ (suc i) (suc j) m a b = ap suc (same_place xs
+    (λ p q d l h. differ (suc p) (suc q) d (omega arith) (omega arith)) i j m a b)
+
+module _ {C A E : Type 0} (about : C → A) (history : C → List E) (writer : E → ℕ)
+    (law : List A → List (List E) → Type 0)
+    (tells : List A → ℕ → List (List E) → List (List E) → Type 0) where
+  abbrev K : Type 0
+  K = Known A E
+
+  at_home : (cells : List C) (c : ℕ) → c < length cells → (y : C)
+      × (get_elem? (map some (map Some cells)) c ≡ some (some (Some y)))
+      × (slice_get (map about cells) c ≡ Some (about y)) × (history y ≡ at (map history cells) c)
+  at_home [] c h = absurd (omega arith)
+  at_home (x ∷ xs) zero h = (x, refl, refl, refl)
+  at_home (x ∷ xs) (suc c) h = at_home xs c (omega arith)
+
+  numbered : (a : List A) (n : ℕ) (numbers : List ℕ) (i : ℕ) (k : K)
+      → get_elem? (map (fresh a n) numbers) i ≡ some k
+      → (m : ℕ) × (get_elem? numbers i ≡ some m) × (fresh a n m ≡ k)
+  numbered a n [] i k e = absurd (some-ne-none k (sym e))
+  numbered a n (x ∷ xs) zero k e = (x, refl, some-injective (fresh a n x) k e)
+  numbered a n (x ∷ xs) (suc i) k e = numbered a n xs i k e
+
+  each_entry : (P : E → Type 0) (cells : List C) (c : ℕ)
+      → All (λ cell. All P (history cell)) cells → All P (at (map history cells) c)
+  each_entry P [] c each = All-nil P
+  each_entry P (x ∷ xs) zero each = All-head (λ cell. All P (history cell)) x xs each
+  each_entry P (x ∷ xs) (suc c) each =
+      each_entry P xs c (All-tail (λ cell. All P (history cell)) x xs each)
+
+  none_looked : (n c : ℕ) → 0 < get_or (replicate n 0) c 0 → ⊥
+  none_looked n c pos = let z : ℕ = 0 in let e = get_or-replicate n c z in omega (arith, e, pos)
+
+  module _ (cells : List C) (numbers : List ℕ)
+      (lawful : law (map about cells) (map history cells))
+      (differ : AllPairs (λ m n. m ≢ n) numbers)
+      (new : All (λ cell. All (λ entry. ¬ Contains numbers (writer entry)) (history cell)) cells)
+    where
+      abbrev abouts : List A
+      abouts = map about cells
+
+      abbrev histories : List (List E)
+      histories = map history cells
+
+      abbrev count : ℕ
+      count = length cells
+
+      abbrev first : View A E
+      first = dealt (map (fresh abouts count) numbers)
+
+      fresh_seen : (m : ℕ) → Contains numbers m
+          → GrewBy (λ entry. writer entry ≢ m) (replicate count []) histories
+      fresh_seen m listed c = (
+        at histories c,
+        ap (λ l. l ++ at histories c) (sym (get_or-replicate count c [])),
+        All-weaker (λ entry. ¬ Contains numbers (writer entry)) (λ entry. writer entry ≢ m)
+            (λ entry other same. other (subst (Contains numbers) (sym same) listed))
+            (at histories c) (each_entry (λ entry. ¬ Contains numbers (writer entry)) cells c new),
+      )
+
+      wide : length histories ≡ count
+      wide = length-map cells history
+
+      fresh_wide : (m : ℕ) → IsWide (fresh {E = E} abouts count m) (length histories)
+      fresh_wide m = record {
+        seen = length-replicate count [] ∙ sym wide;
+        hand = length-replicate count None ∙ sym wide;
+        met = length-replicate count 0 ∙ sym wide;
+        looks = length-replicate count 0 ∙ sym wide;
+        asof = length-replicate count [] ∙ sym wide;
+      }
+
+      fresh_pass : (i m : ℕ) → get_elem? numbers i ≡ some m → IsPass writer tells abouts numbers
+          histories (λ _. 0) (λ _. 0) (0 ∷ words_of histories) 0 (fresh abouts count m)
+      fresh_pass i m e = record {
+        about_is = refl;
+        listed = found_at numbers i m e;
+        mine = refl;
+        seen = fresh_seen m (found_at numbers i m e);
+        hands = λ c h z.
+            let none : hand (fresh {E = E} abouts count m) c ≡ None =
+            get_or-replicate count c None in absurd (cc (none, z));
+        told = λ c pos. absurd (none_looked count c pos);
+        since = λ c pos. absurd (none_looked count c pos);
+        wide = fresh_wide m;
+      }
+
+      -- a pass of the first seat
+      of_first : (j i : ℕ) (w : View A E) (k : K) → get_elem? (first ∷ []) j ≡ some w
+          → get_elem? (passes_of w) i ≡ some k
+          → (j ≡ 0) × (m : ℕ) × (get_elem? numbers i ≡ some m) × (fresh abouts count m ≡ k)
+      of_first j i w k at_j at_i =
+          let o = only first w j at_j in
+          let n = numbered abouts count numbers i k
+          (of_dealt (map (fresh abouts count) numbers) w i k o.1 at_i) in
+          (o.0, n.0, n.1, n.2)
+
+      pub opens : Kept about history writer law tells abouts histories numbers
+          (opening (0 ∷ words_of histories) (map Some cells) first)
+      opens = record {
+        histories = histories;
+        owner = λ _. 0;
+        holder = λ _. 0;
+        lawful = lawful;
+        wide = (let t = length-words_of histories in omega arith);
+        deep = length-map (map Some cells) (λ (x : Option C). some x)
+            ∙ (length-map cells (λ (x : C). Some x) ∙ sym wide);
+        each_cell = λ c l. record {
+          long = (let e : suc (suc (c + c)) ≡ 2 * c + 2 = omega arith in
+              subst (λ (m : ℕ). get_or (0 ∷ words_of histories) m 0 ≡ length (at histories c)) e
+              (length_word histories c l));
+          turn = inl (
+            (let e : suc (c + c) ≡ 2 * c + 1 = omega arith in
+                subst (λ (m : ℕ). get_or (0 ∷ words_of histories) m 0 ≡ 0) e (turn_word histories c)),
+            at_home cells c (subst (λ (m : ℕ). c < m) wide l),
+          );
+        };
+        each_pass = λ j i w k at_j at_i. let f = of_first j i w k at_j at_i in
+            subst (λ (z : ℕ × K). IsPass writer tells abouts numbers histories (λ _. 0) (λ _. 0)
+            (0 ∷ words_of histories) z.0 z.1) (λ m. (sym f.0 m, f.3 m))
+            (fresh_pass i f.1 f.2);
+        apart = λ j i i' w k k' at_j at_i at_i' e.
+            let f = of_first j i w k at_j at_i in let f' = of_first j i' w k' at_j at_i' in
+            let same : f.1 ≡ f'.1 = ap (λ (z : K). z.number) f.3
+            ∙ (e ∙ ap (λ (z : K). z.number) (sym f'.3)) in
+            same_place numbers differ i i' f.1 f.2 (f'.2 ∙ ap some (sym same));
+        all_found = λ m listed. let p = place_of numbers m listed in record {
+          view = first;
+          place = p.0;
+          pass = fresh abouts count m;
+          seated = refl;
+          placed = subst (λ (l : List K). get_elem? l p.0 ≡ some (fresh abouts count m))
+              (sym (passes_of-dealt (map (fresh abouts count) numbers)))
+              (at_map (fresh abouts count) numbers p.0 m p.1);
+          named = refl;
+        };
+        counted = refl;
+        grown = grown-self (λ entry. Contains numbers (writer entry)) histories;
+      }

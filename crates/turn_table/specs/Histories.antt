@@ -1,0 +1,25 @@
+-- Histories of several cells, as lists of entries (own).
+use Rattle.std.specs.Prelude.{ℕ, ◌≡◌, List, [], ◌∷◌, ◌++◌, All, length, slice_index_or, slice_set}
+
+-- the history of this cell, and no entry past the last cell
+abbrev pub at : {E : Type 0} → List (List E) → ℕ → List E
+at histories cell = slice_index_or histories cell []
+
+-- the histories, with these entries behind those of the cell
+abbrev pub with_more : {E : Type 0} → List (List E) → ℕ → List E → List (List E)
+with_more histories cell more = slice_set histories cell (at histories cell ++ more)
+
+-- each history of the first list begins that of the same cell in the second
+abbrev pub ArePrefixes : {E : Type 0} → List (List E) → List (List E) → Type 0
+ArePrefixes {E} early late =
+    (cell : ℕ) → (more : List E) × (at late cell ≡ at early cell ++ more)
+
+-- the same, and P holds of each entry behind the beginnings
+abbrev pub GrewBy : {E : Type 0} → (E → Type 0) → List (List E) → List (List E) → Type 0
+GrewBy {E} P early late =
+    (cell : ℕ) → (more : List E) × (at late cell ≡ at early cell ++ more) × All P more
+
+-- the turn word and the length word of each cell, where no turn is taken
+abbrev pub words_of : {E : Type 0} → List (List E) → List ℕ
+words_of [] = []
+words_of (entries ∷ others) = 0 ∷ length entries ∷ words_of others

@@ -1,0 +1,81 @@
+-- What a pass knows, and how a step of its own changes that (own).
+use Rattle.std.specs.Prelude.{ℕ, ◌+◌, ◌≡◌, true, false, cond, List, [], ◌∷◌, length, replicate, slice_index, slice_index_or, slice_set, Option, Some, None}
+use Rattle.turn_table.specs.declared.knowledge.Known.{Known}
+use Rattle.turn_table.specs.declared.knowledge.View.{View}
+
+module _ {A E : Type 0} where
+  -- the history in hand of a cell, where the pass holds its turn
+  abbrev pub hand : Known A E → ℕ → Option (List E)
+  hand k cell = slice_index_or k.hand cell None
+
+  -- what the pass had seen at its last look at the cell
+  abbrev pub asof : Known A E → ℕ → List (List E)
+  asof k cell = slice_index_or k.asof cell []
+
+  -- the pass holds no turn
+  abbrev pub IsFree : Known A E → Type 0
+  IsFree k = (cell : ℕ) → hand k cell ≡ None
+
+  -- each list has so many places
+  pub record IsWide (k : Known A E) (count : ℕ) : Type 0 where
+    pub seen : length k.seen ≡ count
+    pub hand : length k.hand ≡ count
+    pub met : length k.met ≡ count
+    pub looks : length k.looks ≡ count
+    pub asof : length k.asof ≡ count
+
+  -- a pass that has seen nothing of so many cells
+  abbrev pub fresh : List A → ℕ → ℕ → Known A E
+  fresh about count number = record {
+    about = about;
+    number = number;
+    seen = replicate count [];
+    hand = replicate count None;
+    met = replicate count 0;
+    looks = replicate count 0;
+    asof = replicate count [];
+  }
+
+  -- the pass took the turn of the cell, with this history
+  abbrev pub took : ℕ → List E → Known A E → Known A E
+  took cell history k = record k { hand = slice_set k.hand cell (Some history) }
+
+  -- the pass found the turn of the cell taken
+  abbrev pub missed : ℕ → Known A E → Known A E
+  missed cell k = record k { met = slice_set k.met cell (slice_index k.met cell + 1) }
+
+  -- the pass has found the turn of the cell taken so often
+  abbrev pub waited : ℕ → ℕ → Known A E → Known A E
+  waited cell count k = record k { met = slice_set k.met cell count }
+
+  -- the pass looked at the cell, which has this history
+  abbrev pub looked : ℕ → List E → Known A E → Known A E
+  looked cell history k = record k {
+    seen = slice_set k.seen cell history;
+    looks = slice_set k.looks cell (slice_index k.looks cell + 1);
+    asof = slice_set k.asof cell (slice_set k.seen cell history);
+  }
+
+  -- the pass sealed at the cell, which now has this history
+  abbrev pub sealed : ℕ → List E → Known A E → Known A E
+  sealed cell history k = record k {
+    seen = slice_set k.seen cell history;
+    hand = slice_set k.hand cell (Some history);
+  }
+
+  -- the pass gave the turn of the cell back
+  abbrev pub gave : ℕ → Known A E → Known A E
+  gave cell k = record k { hand = slice_set k.hand cell None }
+
+  -- the passes that a seat has
+  abbrev pub passes_of : View A E → List (Known A E)
+  passes_of view = cond view.used (view.pass ∷ view.more) []
+
+  -- the view of a seat with one pass
+  abbrev pub lone : Known A E → View A E
+  lone k = record { used = true; pass = k; more = [] }
+
+  -- the view of a seat with these passes
+  abbrev pub dealt : List (Known A E) → View A E
+  dealt [] = record { used = false; pass = fresh [] 0 0; more = [] }
+  dealt (k ∷ ks) = record { used = true; pass = k; more = ks }

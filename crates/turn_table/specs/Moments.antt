@@ -1,0 +1,34 @@
+-- The law between any two steps, and what words and slots are then (own).
+use Rattle.std.specs.Prelude.{ℕ, ◌+◌, ◌*◌, ◌≡◌, ◌⊎◌, ◌<◌, List, length, slice_index, Option}
+use Rattle.atomic_table.specs.Table.{State}
+use Rattle.turn_table.specs.declared.knowledge.View.{View}
+use Rattle.turn_table.specs.Histories.{at}
+use Rattle.turn_table.specs.Rule.{IsHeld, IsHome, Kept}
+
+module _ {C A E : Type 0} (about : C → A) (history : C → List E)
+    (law : List A → List (List E) → Type 0) where
+  -- the table between two steps: its histories meet the law; a turn word is 1 where one pass
+  -- holds the turn, which has the history in hand, and else 0, with the value at home; a length
+  -- word is the length of the history
+  pub record IsMoment (abouts : List A) (s : State (Option C) (View A E)) : Type 0 where
+    pub histories : List (List E)
+    pub lawful : law abouts histories
+    pub wide : length s.words ≡ 2 * length histories + 1
+    pub deep : length s.homes ≡ length histories
+    pub length_word : (cell : ℕ) → cell < length histories
+        → slice_index s.words (2 * cell + 2) ≡ length (at histories cell)
+    pub turn_word : (cell : ℕ) → cell < length histories
+        → ((slice_index s.words (2 * cell + 1) ≡ 0)
+        × IsHome about history abouts s.homes (at histories cell) cell
+        × ¬ IsHeld s.views cell)
+        ⊎ ((slice_index s.words (2 * cell + 1) ≡ 1) × IsHeld s.views cell)
+    pub one_holder : (cell : ℕ) (h h' : IsHeld s.views cell)
+        → (h.seat ≡ h'.seat) × (h.place ≡ h'.place)
+    pub in_hand : (cell : ℕ) (h : IsHeld s.views cell) → h.history ≡ at histories cell
+
+  -- each state that keeps the rule is such a moment
+  abbrev pub IsLawBetweenSteps : (E → ℕ)
+      → (List A → ℕ → List (List E) → List (List E) → Type 0) → Type 0
+  IsLawBetweenSteps writer tells = (abouts : List A) (start : List (List E)) (numbers : List ℕ)
+      (s : State (Option C) (View A E))
+      → Kept about history writer law tells abouts start numbers s → IsMoment abouts s

@@ -1,0 +1,20 @@
+//! Turns on cells: one pass at a time has a cell's value, and a law holds over all histories.
+#![tactic(auto)]
+
+mod cell_state;
+mod deals;
+mod knowledge;
+mod law;
+mod pass;
+mod rule;
+mod table;
+#[cfg(test)]
+mod tests;
+mod turn;
+
+pub use cell_state::CellState;
+pub use knowledge::{Known, View};
+pub use law::law_between_steps;
+pub use pass::{Pass, Passes};
+pub use table::{Cells, TurnTable};
+pub use turn::Turn;

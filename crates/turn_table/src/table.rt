@@ -1,0 +1,242 @@
+// The table of turns: its start, the calls of a pass, and its end.
+ghost use Rattle.std.specs.Prelude.{◌≡◌, ◌≢◌, ◌+◌, ◌*◌, ◌^◌, ◌<◌, ◌≤◌, ℕ, [], ◌++◌, All, AllPairs, Contains, IfNone, IfOk, IfSome, None, Some, length, map, slice_get, slice_index, vec_capacity};
+ghost use Rattle.turn_table.specs.Calls.{known, table_of, turn_about, turn_history};
+ghost use Rattle.turn_table.specs.Histories.{at, GrewBy};
+ghost use Rattle.turn_table.specs.Knowledge.{fresh, gave, hand, looked, missed, sealed, took, waited, IsFree};
+ghost use Rattle.turn_table.specs.Steps.{AddsOthers, Glimpse, WasTaken};
+
+use crate::deals::{deal, gather, lay, unload};
+use crate::knowledge::View;
+use crate::rule::{Give, Look, Opening, Seal, Try, Turns};
+use crate::{CellState, Pass, Passes, Turn};
+use atomic_table::Table;
+use std::alloc::Global;
+use std::snapshot::Snapshot;
+use std::sync::Wait;
+use std::thread;
+use tuple_values::{Memory, Numbers, Sequence};
+
+/// The values of cells, in the order of cells.
+pub type Cells<C> = Sequence<C>;
+
+/// A table of cells, which passes share. Whoever has the turn of a cell has the cell's value;
+/// the law over all histories holds at each moment.
+#[derive(Drop)]
+pub struct TurnTable<C: CellState> {
+    pub(crate) board: Table<Option<C>, View<C::About, C::Entry>, Opening<C>, Turns<C>, Global>,
+    // What the table was started with.
+    pub(crate) opening: Opening<C>,
+    pub(crate) cells: u32,
+    // Room for the cells that `close` gives.
+    pub(crate) room: Vec<C>,
+    ghost tied: { board.shared.key ≡ opening },
+    ghost words: { board.shared.table_id.words ≡ 2 * cells + 1 },
+    ghost slots: { board.shared.table_id.slots ≡ cells },
+    ghost few: { cells < 2 ^ 30 },
+    ghost empty: { room.items ≡ [] },
+    ghost roomy: { cells ≤ vec_capacity room },
+}
+
+impl<C: CellState> TurnTable<C> {
+    /// A table over these cells, and a pass for each number.
+    pub fn start(
+        alloc: Global,
+        cells: Cells<C>,
+        numbers: Numbers,
+    ) -> Result<(TurnTable<C>, Passes<C>), Memory>
+        requires few { length cells < 2 ^ 30 }
+        requires lawful { C.law (map C.about cells) (map C.history cells) }
+        requires differ { AllPairs (λ m n. m ≢ n) numbers }
+        requires new { All (λ cell. All (λ entry. ¬ Contains numbers (C.writer entry))
+            (C.history cell)) cells }
+        ensures cells { IfOk result (λ made. made.0.cells ≡ length cells) }
+        ensures opening { IfOk result (λ made. (made.0.opening.cells.value ≡ cells)
+            × (made.0.opening.numbers.value ≡ numbers)) }
+        ensures passes { IfOk result (λ made. map known made.1
+            ≡ map (fresh (map C.about cells) (length cells)) numbers) }
+        ensures own { IfOk result (λ made.
+            All (λ pass. table_of pass ≡ made.0.board.shared.table_id) made.1) }
+    {
+        let opening = Opening {
+            cells: Snapshot::of(&cells),
+            numbers: Snapshot::of(&numbers),
+        };
+        let count = cells.len();
+        let room = Vec::with_capacity(alloc, count)?;
+        let (words, slots) = lay(alloc, cells.into_vec())?;
+        let Ok((board, seat)) = Table::new(alloc, words.as_slice(), slots, &opening) else {
+            return Err(Memory::OutOfMemory);
+        };
+        let passes = deal(alloc, &board.shared, seat, numbers.as_slice(), count)?;
+        let table = TurnTable {
+            board,
+            opening,
+            cells: count as u32,
+            room,
+        };
+        Ok((table, Sequence::from_vec(passes)))
+    }
+
+    /// Makes one try to take the turn of a cell.
+    pub fn try_turn(&self, pass: &mut Pass<C, C::About, C::Entry>, cell: u32) -> Option<Turn<C>>
+        requires own { table_of pass.old ≡ self.now.board.shared.table_id }
+        requires cell { cell < self.now.cells }
+        ensures own { table_of pass.new ≡ table_of pass.old }
+        ensures found { IfSome result (λ turn. (turn.cell ≡ cell)
+            × (turn_about C.about turn ≡ slice_get (known pass.old).about cell)
+            × (known pass.new ≡ took cell (turn_history C.history turn) (known pass.old))
+            × (hand (known pass.new) cell ≡ Some (turn_history C.history turn))) }
+        ensures absent { IfNone result ((known pass.new ≡ missed cell (known pass.old))
+            × WasTaken C.about C.history C.writer C.law C.tells (known pass.old).about cell) }
+    {
+        let shared = &self.board.shared;
+        let place = cell as usize;
+        if shared.compare_exchange::<Try<C>>(&mut pass.seat, 2 * place + 1, 0, 1) == 0 {
+            let value = shared.exchange(&mut pass.seat, place, None);
+            pass.held.push_front_reserved(cell);
+            Some(Turn { value, cell })
+        } else {
+            None
+        }
+    }
+
+    /// Waits for the turn of a cell.
+    pub fn turn<R: Wait>(
+        &self,
+        rt: &R,
+        pass: &mut Pass<C, C::About, C::Entry>,
+        cell: u32,
+    ) -> Turn<C>
+        requires own { table_of pass.old ≡ self.now.board.shared.table_id }
+        requires cell { cell < self.now.cells }
+        ensures own { table_of pass.new ≡ table_of pass.old }
+        ensures cell { result.cell ≡ cell }
+        ensures about { turn_about C.about result ≡ slice_get (known pass.old).about cell }
+        ensures took { (count : ℕ) × (slice_index (known pass.old).met cell ≤ count)
+            × (known pass.new ≡ took cell (turn_history C.history result)
+            (waited cell count (known pass.old))) }
+        ensures holds { hand (known pass.new) cell ≡ Some (turn_history C.history result) }
+    {
+        for _ in rt.forever() {
+            if let Some(turn) = self.try_turn(pass, cell) {
+                return turn;
+            }
+            thread::yield_now();
+        }
+        unreachable!()
+    }
+
+    /// Looks at the cell whose turn it is: the pass then has seen its whole history.
+    pub fn look(&self, pass: &mut Pass<C, C::About, C::Entry>, turn: &Turn<C>)
+        requires own { table_of pass.old ≡ self.now.board.shared.table_id }
+        requires turn { hand (known pass.old) turn.now.cell
+            ≡ Some (turn_history C.history turn.now) }
+        ensures own { table_of pass.new ≡ table_of pass.old }
+        ensures looked { known pass.new
+            ≡ looked turn.now.cell (turn_history C.history turn.now) (known pass.old) }
+        ensures holds { hand (known pass.new) turn.now.cell
+            ≡ Some (turn_history C.history turn.now) }
+        ensures seen { at (known pass.new).seen turn.now.cell
+            ≡ turn_history C.history turn.now }
+        ensures others { AddsOthers C.writer (known pass.old) turn.now.cell
+            (turn_history C.history turn.now) }
+        ensures glimpse { Glimpse C.law C.tells turn.now.cell (known pass.new) }
+    {
+        let place = turn.cell as usize;
+        self.board
+            .shared
+            .load::<Look<C>>(&mut pass.seat, 2 * place + 2);
+    }
+
+    /// Appends the entries of a sealing that has room, after a look in this turn.
+    pub fn seal(
+        &self,
+        pass: &mut Pass<C, C::About, C::Entry>,
+        turn: &mut Turn<C>,
+        sealing: C::Sealing,
+    )
+        requires own { table_of pass.old ≡ self.now.board.shared.table_id }
+        requires turn { hand (known pass.old) turn.old.cell
+            ≡ Some (turn_history C.history turn.old) }
+        requires looked { at (known pass.old).seen turn.old.cell
+            ≡ turn_history C.history turn.old }
+        requires room { IfSome turn.old.value
+            (λ value. C.room value (known pass.old).number sealing) }
+        requires allowed { C.allows (known pass.old).about (known pass.old).number
+            (known pass.old).seen turn.old.cell sealing }
+        ensures own { table_of pass.new ≡ table_of pass.old }
+        ensures cell { turn.new.cell ≡ turn.old.cell }
+        ensures about { turn_about C.about turn.new ≡ turn_about C.about turn.old }
+        ensures appended { turn_history C.history turn.new ≡ turn_history C.history turn.old
+            ++ C.entries (known pass.old).number sealing }
+        ensures signed { All (λ entry. C.writer entry ≡ (known pass.old).number)
+            (C.entries (known pass.old).number sealing) }
+        ensures sealed { known pass.new
+            ≡ sealed turn.old.cell (turn_history C.history turn.new) (known pass.old) }
+        ensures holds { hand (known pass.new) turn.new.cell
+            ≡ Some (turn_history C.history turn.new) }
+        ensures seen { at (known pass.new).seen turn.new.cell
+            ≡ turn_history C.history turn.new }
+    {
+        let cell = turn.cell;
+        let place = cell as usize;
+        pass.bring(cell);
+        let mut value = turn.value.take().unwrap();
+        let before = value.len();
+        value.append(pass.number, sealing);
+        let more = value.len() - before;
+        // The step tells what lies in the slot, so the value lies there while it is made.
+        let shared = &self.board.shared;
+        shared.exchange(&mut pass.seat, place, Some(value));
+        shared.fetch_add::<Seal<C>>(&mut pass.seat, 2 * place + 2, more);
+        turn.value = shared.exchange(&mut pass.seat, place, None);
+    }
+
+    /// Gives a turn back that the pass took, in whatever order it took its turns.
+    pub fn give(&self, pass: &mut Pass<C, C::About, C::Entry>, turn: Turn<C>)
+        requires own { table_of pass.old ≡ self.now.board.shared.table_id }
+        requires turn { hand (known pass.old) turn.cell ≡ Some (turn_history C.history turn) }
+        requires about { turn_about C.about turn ≡ slice_get (known pass.old).about turn.cell }
+        ensures own { table_of pass.new ≡ table_of pass.old }
+        ensures gave { known pass.new ≡ gave turn.cell (known pass.old) }
+        ensures free { hand (known pass.new) turn.cell ≡ None }
+    {
+        let shared = &self.board.shared;
+        let Turn { value, cell } = turn;
+        let place = cell as usize;
+        pass.bring(cell);
+        shared.exchange(&mut pass.seat, place, value);
+        shared.swap::<Give<C>>(&mut pass.seat, 2 * place + 1, 0);
+        pass.held.pop_front();
+    }
+
+    /// Ends the table, and gives its cells. It takes all passes that were made for it, none of
+    /// which holds a turn. Takes no memory.
+    pub fn close(self, passes: Passes<C>) -> Cells<C>
+        requires some { 0 < length passes }
+        requires own { All (λ pass. table_of pass ≡ self.board.shared.table_id) passes }
+        requires free { All (λ pass. IsFree (known pass)) passes }
+        requires all { All (λ number. Contains (map (λ pass. (known pass).number) passes) number)
+            self.opening.numbers.value }
+        ensures lawful { C.law (map C.about self.opening.cells.value) (map C.history result) }
+        ensures about { map C.about result ≡ map C.about self.opening.cells.value }
+        ensures written { GrewBy
+            (λ entry. Contains self.opening.numbers.value (C.writer entry))
+            (map C.history self.opening.cells.value) (map C.history result) }
+        ensures seen { All (λ pass. GrewBy (λ entry. C.writer entry ≢ (known pass).number)
+            (known pass).seen (map C.history result)) passes }
+    {
+        let TurnTable {
+            board,
+            opening: _,
+            cells,
+            room,
+        } = self;
+        let mut passes = passes.into_vec();
+        let Some(first) = passes.pop() else {
+            unreachable!()
+        };
+        let seat = gather(&board.shared, passes, first.into_seat());
+        Sequence::from_vec(unload(board.close_with(seat), room, cells as usize))
+    }
+}

@@ -1,0 +1,143 @@
+// Turns over a small cell: amounts, of which the second cell has no more than the first.
+ghost use Rattle.std.specs.Prelude.{◌≡◌, ◌<◌, ◌+◌, ℕ, [], ◌∷◌, length, vec_len, vec_capacity, All, IfOk, Some, None};
+ghost use Rattle.turn_table.specs.Calls.{known, table_of};
+ghost use Rattle.turn_table.specs.Knowledge.{fresh};
+
+use crate::{CellState, Pass, TurnTable, law_between_steps};
+use std::alloc::{AllocError, Global};
+use std::test::Fail;
+use tuple_values::{Numbers, Sequence};
+
+/// Amounts, each with the number of the pass that added it.
+#[derive(Drop)]
+struct Tally {
+    entries: Vec<(u64, u64)>,
+}
+
+impl CellState for Tally {
+    ghost use Rattle.std.specs.Prelude.{◌<◌, [], ◌∷◌, vec_len, vec_capacity};
+    ghost use Rattle.std.proofs.Common.{refl};
+    ghost use Rattle.std.proofs.lemmas.List.Elements.{All-cons, All-nil};
+    ghost use Rattle.turn_table.specs.Tallies.{IsBehind, IsCovered, MayAdd, behind_kept, covered_at_look, covered_later, signed_one};
+
+    type About = u64;
+
+    type Entry = (u64, u64);
+
+    type Sealing = u64;
+
+    type Refusal = AllocError;
+
+    ghost about = { λ _. 0 };
+
+    ghost history = { λ tally. tally.entries.items };
+
+    ghost can_reserve = { λ tally amount. Unit {0} };
+
+    ghost room = { λ tally by amount. vec_len tally.entries < vec_capacity tally.entries };
+
+    ghost takes = { λ tally amount. Unit {0} };
+
+    ghost refuses = { λ tally amount refusal. Unit {0} };
+
+    ghost writer = { λ entry. entry.0 };
+
+    ghost entries = { λ by amount. (by, amount) ∷ [] };
+
+    ghost law = { λ _ histories. IsBehind histories };
+
+    ghost allows = { λ _ by seen cell amount. MayAdd seen cell };
+
+    ghost tells = { λ _ cell seen histories. IsCovered cell seen histories };
+
+    fn reserve(&mut self, by: u64, sealing: &u64) -> Result<(), AllocError> {
+        let _by = by;
+        let _sealing = sealing;
+        self.entries.reserve(1)
+    }
+
+    fn append(&mut self, by: u64, sealing: u64) {
+        self.entries.push_reserved((by, sealing));
+    }
+
+    fn len(&self) -> u64 {
+        self.entries.len() as u64
+    }
+
+    ghost keeps = { λ abouts by histories seen cell amount behind prefixes low whole may.
+        behind_kept histories seen cell (by, amount) behind prefixes low whole may };
+
+    ghost looks = { λ abouts histories seen cell behind prefixes low whole.
+        covered_at_look histories seen cell behind prefixes };
+
+    ghost lasts = { λ abouts cell seen histories later covered prefixes behind.
+        covered_later cell seen histories later covered prefixes };
+
+    ghost signed = { λ abouts by seen cell amount may. signed_one by amount };
+}
+
+impl Tally {
+    fn empty(alloc: Global) -> Tally
+        ensures { result.entries.items ≡ [] }
+    {
+        Tally {
+            entries: Vec::new(alloc),
+        }
+    }
+}
+
+type TallyPass = Pass<Tally, u64, (u64, u64)>;
+
+/// A table of two cells with no entry, and its passes, with the numbers 1 and 2.
+fn two_cells(alloc: Global) -> Result<(TurnTable<Tally>, TallyPass, TallyPass), Fail>
+    ensures cells { IfOk result (λ made. made.0.cells ≡ 2) }
+    ensures numbers { IfOk result (λ made. made.0.opening.numbers.value ≡ 1 ∷ 2 ∷ []) }
+    ensures own { IfOk result (λ made. (table_of made.1 ≡ made.0.board.shared.table_id)
+        × (table_of made.2 ≡ made.0.board.shared.table_id)) }
+    ensures known { IfOk result (λ made. (known made.1 ≡ fresh (0 ∷ 0 ∷ []) 2 1)
+        × (known made.2 ≡ fresh (0 ∷ 0 ∷ []) 2 2)) }
+{
+    let mut cells = Sequence::new(alloc);
+    cells.push(Tally::empty(alloc))?;
+    cells.push(Tally::empty(alloc))?;
+    let mut numbers = Numbers::new(alloc);
+    numbers.push(1)?;
+    numbers.push(2)?;
+    let (table, passes) = TurnTable::start(alloc, cells, numbers)?;
+    let mut passes = passes.into_vec();
+    let Some(second) = passes.pop() else {
+        return Err("no second pass".into());
+    };
+    let Some(first) = passes.pop() else {
+        return Err("no first pass".into());
+    };
+    Ok((table, first, second))
+}
+
+#[test]
+fn turns_apart(rt: HostRuntime) -> Result<(), Fail> {
+    let (table, mut first, mut second) = two_cells(rt.alloc())?;
+    let held = table.try_turn(&mut first, 0);
+    let other = table.try_turn(&mut second, 1);
+    let other_found = other.is_some();
+    if let Some(turn) = other {
+        table.give(&mut second, turn);
+    }
+    let taken = table.try_turn(&mut second, 0);
+    let none_found = taken.is_none();
+    if let Some(turn) = taken {
+        table.give(&mut second, turn);
+    }
+    let held_found = held.is_some();
+    if let Some(turn) = held {
+        table.give(&mut first, turn);
+    }
+    let again = table.try_turn(&mut second, 0);
+    let again_found = again.is_some();
+    if let Some(turn) = again {
+        table.give(&mut second, turn);
+    }
+    assert!(rt; held_found && other_found && none_found && again_found);
+    law_between_steps::<Tally>();
+    Ok(())
+}

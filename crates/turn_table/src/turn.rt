@@ -1,0 +1,48 @@
+// The turn of a cell.
+ghost use Rattle.std.specs.Prelude.{◌≡◌, true, IfErr, IfSome, OnOk, Some, is_some};
+
+use crate::{CellState, Pass};
+
+/// The turn of a cell, with the cell's value. A pass that took it has to give it back.
+pub struct Turn<C> {
+    pub(crate) value: Option<C>,
+    pub(crate) cell: u32,
+    ghost there: { is_some value ≡ true },
+}
+
+impl<C: CellState> Turn<C> {
+    ghost use Rattle.turn_table.specs.Calls.{known, turn_about, turn_history};
+
+    /// The value.
+    pub fn state(&self) -> &C
+        ensures { self.now.value ≡ Some result.now }
+    {
+        match &self.value {
+            Some(value) => value,
+            None => unreachable!(),
+        }
+    }
+
+    /// Makes room for a sealing, under the number of the pass.
+    pub fn reserve(
+        &mut self,
+        pass: &Pass<C, C::About, C::Entry>,
+        sealing: &C::Sealing,
+    ) -> Result<(), C::Refusal>
+        requires { IfSome self.old.value (λ value. C.can_reserve value sealing.now) }
+        ensures cell { self.new.cell ≡ self.old.cell }
+        ensures history { turn_history C.history self.new ≡ turn_history C.history self.old }
+        ensures about { turn_about C.about self.new ≡ turn_about C.about self.old }
+        ensures room { OnOk result
+            (IfSome self.new.value (λ value. C.room value (known pass.now).number sealing.now)) }
+        ensures takes { OnOk result
+            (IfSome self.old.value (λ value. C.takes value sealing.now)) }
+        ensures cause { IfErr result
+            (λ refusal. IfSome self.old.value (λ value. C.refuses value sealing.now refusal)) }
+    {
+        match &mut self.value {
+            Some(value) => value.reserve(pass.number, sealing),
+            None => unreachable!(),
+        }
+    }
+}
