@@ -1,6 +1,8 @@
 // What no clause can say: that the definitions mean what the rules say, worked by hand, and that
 // each call that takes memory succeeds.
-use crate::{SortFault, SortSpec, SortTerm, read_names, read_on, read_sort, sort_lent, sort_tuples};
+use crate::{
+    SortFault, SortSpec, SortTerm, read_names, read_on, read_sort, sort_lent, sort_tuples,
+};
 use std::alloc::Global;
 use std::cmp::Ordering;
 use std::test::Fail;
