@@ -141,3 +141,24 @@ fn turns_apart(rt: HostRuntime) -> Result<(), Fail> {
     law_between_steps::<Tally>();
     Ok(())
 }
+
+#[test]
+fn one_pass_gives_two_turns_in_the_order_it_took_them(rt: HostRuntime) -> Result<(), Fail> {
+    let (table, mut pass, mut other) = two_cells(rt.alloc())?;
+    let one = table.try_turn(&mut pass, 0);
+    let two = table.try_turn(&mut pass, 1);
+    let both = one.is_some() && two.is_some();
+    if let Some(turn) = one {
+        table.give(&mut pass, turn);
+    }
+    let free = table.try_turn(&mut other, 0);
+    let one_is_free = free.is_some();
+    if let Some(turn) = free {
+        table.give(&mut other, turn);
+    }
+    if let Some(turn) = two {
+        table.give(&mut pass, turn);
+    }
+    assert!(rt; both && one_is_free);
+    Ok(())
+}
