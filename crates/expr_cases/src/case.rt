@@ -1,6 +1,4 @@
 // One case, carried out at a site.
-use expr_check::Checked;
-use expr_text::{PlainFault, read_plain};
 use form_request::{Handler, Param, Params, Request};
 use json_text::tuple_text;
 use std::alloc::Global;
@@ -52,38 +50,9 @@ fn update(alloc: Global, collection: &str, body: &str) -> Result<Request, Memory
     })
 }
 
-// The names of the fields of an expression's tuples, with a comma between them.
-fn fields_line(alloc: Global, checked: &Checked) -> Result<Bytes, Memory> {
-    let mut out = Bytes::new(alloc);
-    for name in checked.fields().as_slice() {
-        if out.len() > 0 {
-            out.extend(b",")?;
-        }
-        out.extend(name.as_str().as_bytes())?;
-    }
-    Ok(out)
-}
-
-// The fields of an expression, or what a reply says of its first fault.
-fn fields_of(alloc: Global, site: &PlainSite, text: &str) -> Result<Bytes, Memory> {
-    match read_plain(alloc, site.names(), text.as_bytes()) {
-        Ok(checked) => fields_line(alloc, &checked),
-        Err(PlainFault::Told(fault)) => {
-            let mut out = Bytes::new(alloc);
-            out.extend(fault.as_str().as_bytes())?;
-            Ok(out)
-        }
-        Err(PlainFault::OutOfMemory) => Err(Memory::OutOfMemory),
-    }
-}
-
-/// The answer to one case: `update NAME BODY` is a body of an update, `fields EXPRESSION` asks for
-/// the names of its tuples' fields, and each other line is an expression, whose tuples are written
-/// with a blank between them.
+/// The answer to one case: `update NAME BODY` is a body of an update, and each other line an
+/// expression, whose tuples are written with a blank between them.
 pub fn answer(alloc: Global, site: &mut PlainSite, case: &str) -> Result<Bytes, Memory> {
-    if let Some(text) = case.strip_prefix("fields ") {
-        return fields_of(alloc, site, text);
-    }
     let outcome = match case.strip_prefix("update ") {
         Some(rest) => {
             let (collection, body) = rest.split_once(' ').unwrap_or((rest, ""));
