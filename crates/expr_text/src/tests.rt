@@ -8,6 +8,7 @@ use tuple_values::Names;
 fn a_text_is_read_planned_and_checked(rt: HostRuntime) -> Result<(), Fail> {
     let alloc = rt.alloc();
     let checked = read_plain(alloc, &Names::new(alloc), b"sort(tuple(a=1),by=\"a asc\")")?;
-    assert!(rt; matches!(checked.order(), Order::By(_)));
+    let named = checked.fields().contains("a");
+    assert!(rt; matches!(checked.order(), Order::By(_)) && named);
     Ok(())
 }
