@@ -1,6 +1,6 @@
 -- What a left document gives of a bucket, from place to place.
-use Rattle.std.proofs.Common.{◌≡◌, ◌<◌, ◌≤◌, ◌+◌, ℕ, zero, suc, List, [], ◌∷◌, ◌++◌, map, filter, drop}
-use Rattle.std.proofs.Common.{get_or, slice_get, length, option_to_list, Some, true}
+use Rattle.std.proofs.Common.{◌≡◌, ◌<◌, ◌≤◌, ◌+◌, ℕ, zero, suc, List, [], ◌∷◌, ◌++◌, map, filter}
+use Rattle.std.proofs.Common.{drop, get_or, slice_get, length, option_to_list, Some, true}
 use Rattle.std.proofs.Common.{Bool, refl, ap, sym, ◌∙◌, add-one, arith}
 use Rattle.std.proofs.lemmas.Option.{slice_get_read}
 use Rattle.tuple_values.specs.Document.{Doc, over}

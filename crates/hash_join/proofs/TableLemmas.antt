@@ -19,7 +19,8 @@ other_entries eq test old new h = h
 apart : (key other bytes : ByteList) → bytes_eq key other ≡ false → bytes_eq key bytes ≡ true
     → bytes_eq other bytes ≡ false
 apart key other bytes differs meets =
-    nat_list_eq_equiv.symm other bytes ∙ sym (nat_list_eq_equiv.congr key bytes other meets) ∙ differs
+    nat_list_eq_equiv.symm other bytes ∙ sym (nat_list_eq_equiv.congr key bytes other meets)
+    ∙ differs
 
 -- keys are read by their bytes, and what stands under them as documents
 module _ {K X S : Type 0} (bytes : K → ByteList) (docs : X → List Doc) (m n : HashMap K X S) where
@@ -29,7 +30,8 @@ module _ {K X S : Type 0} (bytes : K → ByteList) (docs : X → List Doc) (m n 
 
   -- where those of one key and one more were put under it, all others stay
   pub added_under : (key : ByteList) (doc : Doc) (made : X)
-      → UpdatesBy (λ x y. bytes_eq (bytes x) (bytes y)) (λ k. bytes_eq key (bytes k)) m n (Some made)
+      → UpdatesBy (λ x y. bytes_eq (bytes x) (bytes y)) (λ k. bytes_eq key (bytes k)) m n
+      (Some made)
       → docs made ≡ under m key ++ doc ∷ [] → (other : ByteList)
       → under n other ≡ (if bytes_eq key other then under m other ++ doc ∷ [] else under m other)
   added_under key doc made h e other = by (bytes_eq key other) refl

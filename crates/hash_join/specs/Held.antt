@@ -1,7 +1,7 @@
 -- What a left document gives of the right ones among which its equals are, and what is still to be
 -- given of the last one (own).
-use Rattle.std.specs.Prelude.{ℕ, suc, List, [], ◌∷◌, ◌++◌, Bool, Option, Some, None, map, filter, drop}
-use Rattle.std.specs.Prelude.{slice_get, flat_map, option_to_list}
+use Rattle.std.specs.Prelude.{ℕ, suc, List, [], ◌∷◌, ◌++◌, map, filter, flat_map, drop, slice_get}
+use Rattle.std.specs.Prelude.{Bool, Option, Some, None, option_to_list}
 use Rattle.tuple_values.specs.Document.{Doc, over}
 use Rattle.sort_spec.specs.declared.pair.OnPair.{OnPair}
 use Rattle.expr_types.specs.Joins.{matches, or_these, alone_of}

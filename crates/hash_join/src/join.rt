@@ -15,8 +15,8 @@ use std::alloc::Global;
 use tuple_values::{Memory, Tuple};
 
 /// Gives a left tuple over a right one for each two that are equal by pairs of fields, and a left
-/// tuple without an equal as it is where the join is outer. Input 0 gives the left tuples, and input
-/// 1 the right ones, which are read whole before the first left tuple.
+/// tuple without an equal as it is where the join is outer. Input 0 gives the left tuples, input 1
+/// the right ones, which are read whole before the first left tuple.
 #[derive(Debug, Drop)]
 pub struct HashJoinKernel {
     alloc: Global,

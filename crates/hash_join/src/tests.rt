@@ -99,9 +99,9 @@ fn joined(alloc: Global, outer: bool, lefts: &[Row], rights: &[Row]) -> Result<S
     given(alloc, kernel, lefts, rights)
 }
 
-// Left and right tuples, and what an inner and an outer join give of them: keys that are repeated on
-// both sides, absent ones, keys of two kinds, groups, whose key texts are alike, two pairs of which
-// one differs, and an empty side.
+// Left and right tuples, and what an inner and an outer join give of them: keys that are repeated
+// on both sides, absent ones, keys of two kinds, groups, whose key texts are alike, two pairs of
+// which one differs, and an empty side.
 const JOINED: [(&[Row], &[Row], &str, &str); 7] = [
     (
         &[

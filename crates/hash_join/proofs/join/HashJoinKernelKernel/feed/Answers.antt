@@ -1,5 +1,5 @@
-use Rattle.std.proofs.Common.{◌≡◌, ◌≢◌, ℕ, zero, suc, [], ◌∷◌, Bool, true, false, Ok, slice_index_or}
-use Rattle.std.proofs.Common.{length, refl, subst, sym, ◌∙◌, arith}
+use Rattle.std.proofs.Common.{◌≡◌, ◌≢◌, ℕ, zero, suc, [], ◌∷◌, length, Bool, true, false, Ok}
+use Rattle.std.proofs.Common.{slice_index_or, refl, subst, sym, ◌∙◌, arith}
 use Rattle.kernel_laws.specs.Rests.{rest_at, put_front}
 use Rattle.kernel_laws.proofs.RestLemmas.{rest_at-put_front, rest_at-put_front_other}
 use Rattle.kernel_laws.proofs.RestLemmas.{length-put_front}
