@@ -1,3 +1,4 @@
+pub mod PlainLemmas
 pub mod DocumentsLemmas
 pub mod MembersLemmas
 pub mod RepliesLemmas

@@ -1,3 +1,4 @@
+pub mod Plain
 pub mod Replies
 pub mod Documents
 pub mod Writes

@@ -17,15 +17,21 @@ use tuple_values::{Memory, Text, Tuple, Value, coerce};
 // The greatest size of a document, in counted bytes.
 const LARGEST: u64 = 1_048_576;
 
-// The document that a value is, at its place in its list. The texts are moved in.
-pub(crate) fn document(alloc: Global, at: u64, json: Json) -> Result<Tuple, JsonFault>
+// The document that a value is, at its place in its list. The texts are moved in; the names that the
+// other document has are shared with it.
+pub(crate) fn document(
+    alloc: Global,
+    at: u64,
+    json: Json,
+    other: Option<&Tuple>,
+) -> Result<Tuple, JsonFault>
     ensures ok { IfOk result (λ doc. document_of at (view json) ≡ Ok doc) }
     ensures err { IfErr result (λ fault. fault ≢ JsonFault.OutOfMemory
         → document_of at (view json) ≡ Err fault) }
 {
     match json {
         Json::Object(members) => {
-            let doc = fields(alloc, at, members)?;
+            let doc = fields(alloc, at, members, other)?;
             allow(at, doc)
         }
         _ => Err(JsonFault::NotADocument { at }),
@@ -33,7 +39,12 @@ pub(crate) fn document(alloc: Global, at: u64, json: Json) -> Result<Tuple, Json
 }
 
 // The document of an object's members, unless one of them has no value.
-fn fields(alloc: Global, at: u64, members: Map<String, Json>) -> Result<Tuple, JsonFault>
+fn fields(
+    alloc: Global,
+    at: u64,
+    members: Map<String, Json>,
+    other: Option<&Tuple>,
+) -> Result<Tuple, JsonFault>
     ensures fit { OnOk result
         (find is_unfit (member_list (members_view members.entries)) ≡ None) }
     ensures ok { IfOk result (λ doc. doc ≡ fields_in (member_list (members_view members.entries))) }
@@ -42,8 +53,9 @@ fn fields(alloc: Global, at: u64, members: Map<String, Json>) -> Result<Tuple, J
         (find is_unfit (member_list (members_view members.entries))) ≡ Some fault) }
 {
     let mut doc = Tuple::empty(alloc);
+    doc.make_room(members.len() as u64)?;
     for (name, json) in members {
-        put_member(alloc, at, &mut doc, name, json)?;
+        put_member(alloc, at, &mut doc, name, json, other)?;
     }
     Ok(doc)
 }
@@ -55,6 +67,7 @@ fn put_member(
     doc: &mut Tuple,
     name: String,
     json: Json,
+    other: Option<&Tuple>,
 ) -> Result<(), JsonFault>
     ensures fit { OnOk result (is_unfit (string_bytes name, view json) ≡ false) }
     ensures ok { OnOk result (doc.new ≡ option_map_or (λ f. over doc.old (f ∷ []))
@@ -69,7 +82,7 @@ fn put_member(
     }
     match value_of(alloc, name.as_str(), json)? {
         Some(value) => {
-            doc.put(Text::from_string(name), value)?;
+            doc.put_like(other, name.as_str(), value)?;
             Ok(())
         }
         None => Err(JsonFault::NotWhole {

@@ -38,7 +38,7 @@ fn push_end(alloc: Global, out: &mut Bytes, end: &EndTuple) -> Result<(), Memory
     out.extend(b"{\"EOF\":true,")?;
     push_exception(alloc, out, &end.exception)?;
     out.extend(b"\"RESPONSE_TIME\":")?;
-    push_count(alloc, out, end.millis)?;
+    push_count(out, end.millis)?;
     out.extend(b"}")
 }
 
@@ -59,7 +59,7 @@ pub fn update_text(alloc: Global, millis: u64) -> Result<Bytes, Memory>
     ensures { IfOk result (λ bytes. bytes ≡ update_body millis) }
 {
     let mut out = Bytes::new(alloc);
-    push_header(alloc, &mut out, 0, millis)?;
+    push_header(&mut out, 0, millis)?;
     out.extend(b"}")?;
     Ok(out)
 }
@@ -69,21 +69,21 @@ pub fn error_text(alloc: Global, code: u16, msg: &Text, millis: u64) -> Result<B
     ensures { IfOk result (λ bytes. bytes ≡ error_body code msg.now millis) }
 {
     let mut out = Bytes::new(alloc);
-    push_header(alloc, &mut out, code, millis)?;
+    push_header(&mut out, code, millis)?;
     out.extend(b",\"error\":{\"msg\":")?;
     push_text(alloc, &mut out, msg.as_str())?;
     out.extend(b",\"code\":")?;
-    push_count(alloc, &mut out, u64::from(code))?;
+    push_count(&mut out, u64::from(code))?;
     out.extend(b"}}")?;
     Ok(out)
 }
 
-fn push_header(alloc: Global, out: &mut Bytes, status: u16, millis: u64) -> Result<(), Memory>
+fn push_header(out: &mut Bytes, status: u16, millis: u64) -> Result<(), Memory>
     ensures { OnOk result (out.new ≡ out.old ++ header_text status millis) }
 {
     out.extend(b"{\"responseHeader\":{\"status\":")?;
-    push_count(alloc, out, u64::from(status))?;
+    push_count(out, u64::from(status))?;
     out.extend(b",\"QTime\":")?;
-    push_count(alloc, out, millis)?;
+    push_count(out, millis)?;
     out.extend(b"}")
 }

@@ -37,7 +37,7 @@ fn push_value(alloc: Global, out: &mut Bytes, value: &Value) -> Result<(), Memor
     ensures { OnOk result (out.new ≡ out.old ++ datum_text (datum_of value.now)) }
 {
     match value {
-        Value::Long(n) => push_long(alloc, out, *n),
+        Value::Long(n) => push_long(out, *n),
         Value::Text(text) => push_text(alloc, out, text.as_str()),
         Value::Group(group) => push_group(alloc, out, group),
     }

@@ -10,7 +10,7 @@ use crate::document::document;
 use crate::members::{are_add_keys, take};
 use serde_json::{Map, Value as Json};
 use std::alloc::Global;
-use tuple_values::{Memory, Text, Write, Writes};
+use tuple_values::{Memory, Text, Tuple, Write, Writes};
 
 // Behind the writes, those of a list of documents.
 pub(crate) fn push_puts(
@@ -44,9 +44,17 @@ pub(crate) fn push_put(
     ensures err { IfErr result (λ fault. fault ≢ JsonFault.OutOfMemory
         → behind writes (each_from put_of at (view json ∷ [])) ≡ Err fault) }
 {
-    let put = Write::Put(document(alloc, at, json)?);
+    let put = Write::Put(document(alloc, at, json, last_document(writes.as_slice()))?);
     writes.push(put)?;
     Ok(writes)
+}
+
+// The document that is put last, where it stands last.
+fn last_document(writes: &[Write]) -> Option<&Tuple> {
+    match writes {
+        [.., Write::Put(document)] => Some(document),
+        _ => None,
+    }
 }
 
 // Behind the writes, those of the command `add`, if it is given.

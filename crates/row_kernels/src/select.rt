@@ -4,7 +4,7 @@ ghost use Rattle.tuple_values.specs.Document.{Doc};
 ghost use Rattle.expr_types.specs.Rows.{select_list};
 ghost use Rattle.row_kernels.specs.SelectState as select;
 
-use crate::selecting::selected;
+use crate::selecting::{names_of, selected};
 use expr_types::Items;
 use kernel_laws::{Ask, Kernel, OneInput};
 use std::alloc::Global;
@@ -15,6 +15,8 @@ use tuple_values::{Memory, TryCopy, Tuple};
 pub struct SelectKernel {
     alloc: Global,
     items: Items,
+    // The names that the items put, shared by all that is made.
+    names: Tuple,
     held: Option<Tuple>,
     input: OneInput,
 }
@@ -30,9 +32,11 @@ impl SelectKernel {
         ensures lives { IfOk result (λ k. select.failed k ≡ false) }
     {
         let items = items.copy(alloc)?;
+        let names = names_of(alloc, items.as_slice())?;
         Ok(SelectKernel {
             alloc,
             items,
+            names,
             held: None,
             input: OneInput::open(),
         })
@@ -70,7 +74,7 @@ impl Kernel for SelectKernel {
             self.input.end();
             return Ok(());
         };
-        let made = selected(self.alloc, self.items.as_slice(), tuple);
+        let made = selected(self.alloc, self.items.as_slice(), &self.names, tuple);
         self.held = Some(self.input.keep(made)?);
         Ok(())
     }

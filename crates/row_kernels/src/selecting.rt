@@ -18,25 +18,53 @@ use tuple_values::{Memory, Text, TryCopy, Tuple, Value, compare};
 /// a wider one a copy takes less time than closing the gap that a value leaves.
 const NARROW: usize = 64;
 
-/// What the items make of a tuple.
-pub(crate) fn selected(alloc: Global, items: &[Item], tuple: Tuple) -> Result<Tuple, Memory>
+/// A tuple with the names that items put, which what they make shares.
+pub(crate) fn names_of(alloc: Global, items: &[Item]) -> Result<Tuple, Memory> {
+    let mut names = Tuple::empty(alloc);
+    for item in items {
+        let name = match item {
+            Item::Field { to, .. } => to,
+            Item::Replace { field, .. } => field,
+            Item::Concat { into, .. } => into,
+        };
+        names.put(name.copy(alloc)?, Value::Long(0))?;
+    }
+    Ok(names)
+}
+
+/// What the items make of a tuple. It shares the names that the other tuple has.
+pub(crate) fn selected(
+    alloc: Global,
+    items: &[Item],
+    names: &Tuple,
+    tuple: Tuple,
+) -> Result<Tuple, Memory>
     ensures { IfOk result (λ made. made ≡ selected items.now tuple) }
 {
-    let made = all_chosen(alloc, items, tuple)?;
-    let changed = all_changed(alloc, made, items)?;
+    let made = all_chosen(alloc, items, names, tuple)?;
+    let changed = all_changed(alloc, made, items, names)?;
     Ok(changed)
 }
 
 // The chosen fields under their new names. What is chosen for the last time is moved.
 #[tactic(auto, using(crate::proofs::SelectLemmas::select_steps))]
-fn all_chosen(alloc: Global, items: &[Item], tuple: Tuple) -> Result<Tuple, Memory>
+fn all_chosen(alloc: Global, items: &[Item], names: &Tuple, tuple: Tuple) -> Result<Tuple, Memory>
     ensures { IfOk result (λ made. made ≡ over [] (filter_map (chosen tuple) items.now)) }
 {
     let moves = items.len() <= NARROW && tuple.count() <= NARROW as u64;
     let mut rest = tuple;
     let mut made = Tuple::empty(alloc);
+    made.make_room(names.count())?;
     for k in 0..items.len() {
-        made = with_chosen(alloc, made, &items[k], &mut rest, moves, &items[k + 1..])?;
+        made = with_chosen(
+            alloc,
+            made,
+            &items[k],
+            names,
+            &mut rest,
+            moves,
+            &items[k + 1..],
+        )?;
     }
     Ok(made)
 }
@@ -47,6 +75,7 @@ fn with_chosen(
     alloc: Global,
     made: Tuple,
     item: &Item,
+    names: &Tuple,
     rest: &mut Tuple,
     moves: bool,
     later: &[Item],
@@ -62,7 +91,7 @@ fn with_chosen(
         return Ok(made);
     };
     let mut made = made;
-    made.put(to.copy(alloc)?, value)?;
+    made.put_like(Some(names), to.as_str(), value)?;
     Ok(made)
 }
 
@@ -116,30 +145,30 @@ fn chooses(name: &str, item: &Item) -> bool
 }
 
 // The tuple after all replaces and concats.
-fn all_changed(alloc: Global, tuple: Tuple, items: &[Item]) -> Result<Tuple, Memory>
+fn all_changed(alloc: Global, tuple: Tuple, items: &[Item], names: &Tuple) -> Result<Tuple, Memory>
     ensures { IfOk result (λ after. after ≡ fold changed tuple items.now) }
 {
     let mut after = tuple;
     for item in items {
-        after = changed(alloc, after, item)?;
+        after = changed(alloc, after, item, names)?;
     }
     Ok(after)
 }
 
 // The tuple after an item that is a replace or a concat.
-fn changed(alloc: Global, tuple: Tuple, item: &Item) -> Result<Tuple, Memory>
+fn changed(alloc: Global, tuple: Tuple, item: &Item, names: &Tuple) -> Result<Tuple, Memory>
     ensures { IfOk result (λ after. after ≡ changed tuple item.now) }
 {
     match item {
         Item::Field { .. } => Ok(tuple),
-        Item::Replace { field, old, new } => replaced(alloc, tuple, field, old, new),
+        Item::Replace { field, old, new } => replaced(alloc, tuple, field, old, new, names),
         Item::Concat {
             fields,
             into,
             delim,
         } => {
             let text = joined(alloc, fields, delim, &tuple)?;
-            with_text(alloc, tuple, into, text)
+            with_text(tuple, into, text, names)
         }
     }
 }
@@ -150,6 +179,7 @@ fn replaced(
     field: &Text,
     old: &Option<Value>,
     new: &Option<Value>,
+    names: &Tuple,
 ) -> Result<Tuple, Memory>
     ensures { IfOk result (λ after. after ≡ (if is_eq (option_cmp datum_cmp
         (value_at field.now tuple) (option_map datum_of old.now))
@@ -158,7 +188,7 @@ fn replaced(
     if compare(tuple.get(field.as_str()), old.as_ref()).is_ne() {
         return Ok(tuple);
     }
-    with_value(alloc, tuple, field, new)
+    with_value(alloc, tuple, field, new, names)
 }
 
 // The tuple with the value under the name, or without the field where there is none.
@@ -167,6 +197,7 @@ fn with_value(
     tuple: Tuple,
     name: &Text,
     value: &Option<Value>,
+    names: &Tuple,
 ) -> Result<Tuple, Memory>
     ensures { IfOk result (λ after. after
         ≡ with_value name.now (option_map datum_of value.now) tuple) }
@@ -176,19 +207,19 @@ fn with_value(
         None => {
             tuple.remove(name.as_str());
         }
-        Some(value) => tuple.put(name.copy(alloc)?, value.copy(alloc)?)?,
+        Some(value) => tuple.put_like(Some(names), name.as_str(), value.copy(alloc)?)?,
     }
     Ok(tuple)
 }
 
 // The tuple with the text under the name, where there is one.
-fn with_text(alloc: Global, tuple: Tuple, name: &Text, text: Option<Text>) -> Result<Tuple, Memory>
+fn with_text(tuple: Tuple, name: &Text, text: Option<Text>, names: &Tuple) -> Result<Tuple, Memory>
     ensures { IfOk result (λ after. after ≡ with_text name.now text tuple) }
 {
     let Some(text) = text else {
         return Ok(tuple);
     };
     let mut tuple = tuple;
-    tuple.put(name.copy(alloc)?, Value::Text(text))?;
+    tuple.put_like(Some(names), name.as_str(), Value::Text(text))?;
     Ok(tuple)
 }

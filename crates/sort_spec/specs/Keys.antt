@@ -1,5 +1,6 @@
 -- Documents by their values under the terms of a sort, each looked up once (own).
-use Rattle.std.specs.Prelude.{List, [], ◌∷◌, Option, None, map, option_map, if◌then◌else◌}
+use Rattle.std.specs.Prelude.{ℕ, List, [], ◌∷◌, Option, None, map, option_map, slice_get}
+use Rattle.std.specs.Prelude.{if◌then◌else◌}
 use Rattle.std.specs.Borrow.{Bor}
 use Rattle.std.specs.Option.{option_cmp}
 use Rattle.std.specs.Ordering.{ordering_reverse, ordering_then}
@@ -18,6 +19,10 @@ Key = List (Option Datum)
 -- what is lent of values
 abbrev pub seen : List (Option (Bor Value)) → Key
 seen values = map (λ o. option_map (λ v. datum_of v.now) o) values
+
+-- the values of a document at places, absent past its last field
+abbrev pub seen_at : Doc → List ℕ → Key
+seen_at doc places = map (λ place. option_map (λ f. f.1) (slice_get doc place)) places
 
 -- the values of a document under the terms
 abbrev pub key_of : List SortTerm → Doc → Key

@@ -99,8 +99,8 @@ fn others_of<'a, 'b>(keys: &'b [Option<&'a Value>]) -> &'b [Option<&'a Value>]
     }
 }
 
-// How two values compare by a term.
-fn compare_values(term: &SortTerm, a: Option<&Value>, b: Option<&Value>) -> Ordering
+/// How two values compare by a term.
+pub(crate) fn compare_values(term: &SortTerm, a: Option<&Value>, b: Option<&Value>) -> Ordering
     ensures { result ≡ value_cmp term.now (option_map (λ v. datum_of v.now) a.entry)
         (option_map (λ v. datum_of v.now) b.entry) }
 {

@@ -6,6 +6,7 @@ mod fault;
 mod item;
 mod keyed;
 mod pair;
+mod placed;
 mod reader;
 mod scan;
 mod sorting;

@@ -5,16 +5,22 @@ ghost use Rattle.sort_spec.specs.Terms.{less};
 
 use crate::SortSpec;
 use crate::keyed::{compare_keys, with_keys, without_keys};
+use crate::placed::{compare_placed, with_places, without_places};
 use tuple_values::{Memory, Tuple, Tuples};
 
 /// Sorts tuples, and leaves those that tie in their order. The tuples are moved, never copied;
-/// after an `Err` they are dropped. Takes some n log n comparisons of n tuples.
+/// after an `Err` they are dropped. The values under the terms are looked up once in each of n
+/// tuples; then some n log n pairs of them are compared.
 pub fn sort_tuples(tuples: Tuples, by: &SortSpec) -> Result<Tuples, Memory>
     ensures { IfOk result (λ sorted. sorted ≡ ins_sort (less by.now) tuples) }
 {
-    let mut items = tuples.into_vec();
-    items.sort_by(|a, b| by.compare(a, b))?;
-    Ok(Tuples::from_vec(items))
+    let items = tuples.into_vec();
+    let alloc = *items.allocator();
+    let terms = by.as_slice();
+    let mut rows = with_places(alloc, terms, items)?;
+    rows.sort_by(|a, b| compare_placed(terms, a, b))?;
+    let sorted = without_places(alloc, rows)?;
+    Ok(Tuples::from_vec(sorted))
 }
 
 /// Sorts tuples that are lent, and leaves those that tie in their order. The values under the

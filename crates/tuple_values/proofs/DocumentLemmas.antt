@@ -1,5 +1,6 @@
 -- What a lookup and an edit of a document are at a place.
 use Rattle.std.proofs.Common.{◌≡◌, ℕ, zero, suc, ◌<◌, ◌≤◌, [], ◌∷◌, length, get_or, set, Some, None, refl, ap, sym, ◌∙◌, arith, Bool, true, false, cond, filter}
+use Rattle.std.specs.Prelude.{slice_get, option_map}
 use Rattle.std.specs.List.{insert, remove}
 use Rattle.std.specs.declared.cmp.Ordering.{Ordering}
 use Rattle.std.specs.declared.cmp.Ordering.TheVariants.{Less, Equal, Greater}
@@ -20,6 +21,18 @@ pub value_found : (n : ByteList) (i : ℕ) (d : Doc) (e : ByteList × Datum) →
 value_found n i [] e at = absurd at
 value_found n zero (f ∷ d) e at = rw (bytes_by f.0 n Equal at) refl
 value_found n (suc i) (f ∷ d) e at = rw (bytes_by f.0 n Less at.0) (value_found n i d e at.1)
+
+-- the value at the place of a name
+pub placed : (n : ByteList) (i : ℕ) (d : Doc) → IsAt n i d
+    → option_map (λ f. f.1) (slice_get d i) ≡ value_at n d
+placed n i [] at = absurd at
+placed n zero (f ∷ d) at = rw (bytes_by f.0 n Equal at) refl
+placed n (suc i) (f ∷ d) at = rw (bytes_by f.0 n Less at.0) (placed n i d at.1)
+
+-- there is no value past the last field
+pub placed_past : (d : Doc) → option_map (λ f. f.1) (slice_get d (length d)) ≡ None
+placed_past [] = refl
+placed_past (f ∷ d) = placed_past d
 
 pub below_absent : (n : ByteList) (d : Doc) → IsBelow n d → value_at n d ≡ None
 below_absent n [] below = refl

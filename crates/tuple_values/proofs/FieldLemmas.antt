@@ -1,5 +1,6 @@
 -- What a read and an edit of a tuple's fields are for its document.
 use Rattle.std.proofs.Common.{◌≡◌, ℕ, zero, suc, List, [], ◌∷◌, get_or, set, Some, refl, ap, sym, ◌∙◌, subst, Bool, true, false, cond, filter}
+use Rattle.std.proofs.lemmas.Map.Lookups.{exact_bytes}
 use Rattle.std.specs.List.{insert, remove}
 use Rattle.tuple_values.specs.Document.{ByteList, Datum, Doc, Rises, IsAt, IsGap, value_at, put, without}
 use Rattle.tuple_values.specs.Views.{datum_of, pair_of, doc_of}
@@ -30,6 +31,13 @@ doc-remove (g ∷ fs) (suc i) = ap (λ (d : Doc). pair_of g ∷ d) (doc-remove f
 
 pub got : (n : ByteList) (fs : List Field) (i : ℕ) (f : Field) → IsAt n i (doc_of fs) → value_at n (doc_of fs) ≡ Some (datum_of (get_or fs i f).value)
 got n fs i f at = value_found n i (doc_of fs) (pair_of f) at ∙ ap (λ (p : ByteList × Datum). Some p.1) (doc-get fs i f)
+
+-- the field at the place of a name has this name
+pub named : (n : ByteList) (fs : List Field) (i : ℕ) (f : Field) → IsAt n i (doc_of fs)
+    → (get_or fs i f).name ≡ n
+named n [] i f at = absurd at
+named n (g ∷ fs) zero f at = exact_bytes g.name n at
+named n (g ∷ fs) (suc i) f at = named n fs i f at.1
 
 pub set_at : (fs : List Field) (i : ℕ) (f : Field) → IsAt f.name i (doc_of fs) → doc_of (set fs i f) ≡ put f.name (datum_of f.value) (doc_of fs)
 set_at fs i f at = doc-set fs i f ∙ sym (put_found f.name (datum_of f.value) i (doc_of fs) at)

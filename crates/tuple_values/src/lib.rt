@@ -2,6 +2,7 @@
 #![tactic(auto)]
 
 mod comparing;
+mod field_name;
 mod keys;
 mod kinds;
 mod memory;

@@ -177,6 +177,20 @@ fn a_copy_or_a_cut_has_the_same_fields(rt: HostRuntime) -> Result<(), Fail> {
 }
 
 #[test]
+fn a_tuple_may_have_the_names_of_another(rt: HostRuntime) -> Result<(), Fail> {
+    let other = sample(rt.alloc())?;
+    let mut tuple = Tuple::empty(rt.alloc());
+    tuple.make_room(2)?;
+    tuple.put_like(Some(&other), "n_i", Value::Long(7))?;
+    tuple.put_like(None, "a", Value::Long(1))?;
+    assert_eq!(rt; tuple.count(), 2);
+    assert!(rt; is(tuple.get("n_i"), Plain::Long(7)));
+    assert!(rt; is(tuple.at_place(tuple.place("a")), Plain::Long(1)));
+    assert!(rt; is(tuple.at_place(tuple.place("n")), Plain::Absent));
+    Ok(())
+}
+
+#[test]
 fn the_right_tuple_wins_where_names_meet(rt: HostRuntime) -> Result<(), Fail> {
     let right = tuple_of(rt.alloc(), "n_i", 9)?;
     let both = sample(rt.alloc())?.over(rt.alloc(), &right)?;

@@ -1,11 +1,12 @@
 // A tuple as a finite map.
-ghost use Rattle.std.specs.Prelude.{◌≡◌, ◌≢◌, ◌<◌, List, [], true, false, IfOk, IfErr, OnOk, OnErr, filter, length, option_map, slice_index_or, Some, None};
+ghost use Rattle.std.specs.Prelude.{◌≡◌, ◌≢◌, ◌<◌, List, [], true, false, IfOk, IfErr, OnOk, OnErr, filter, length, option_map, slice_index_or, slice_get, Some, None};
 ghost use Rattle.std.specs.Option.{option_or};
 ghost use Rattle.std.specs.List.Sorted.{IsSearchInRange};
 ghost use Rattle.std.specs.declared.cmp.Ordering.TheVariants.{Equal};
 ghost use Rattle.tuple_values.specs.Document.{ByteList, bytes_cmp, Datum, Doc, Rises, value_at, put, without, over, is_named, IsAt, IsGap, datum_depth, doc_depth};
 ghost use Rattle.tuple_values.specs.Views.{datum_of, doc_of};
 
+use crate::field_name::FieldName;
 use crate::value::Field;
 use crate::{FieldList, Memory, Text, TryCopy, Tuple, Value};
 use std::alloc::Global;
@@ -20,6 +21,14 @@ impl Tuple {
         }
     }
 
+    /// Makes room for so many more fields, and for no others.
+    pub fn make_room(&mut self, more: u64) -> Result<(), Memory>
+        ensures { self.new ≡ self.old }
+    {
+        self.fields.reserve_exact(more as usize)?;
+        Ok(())
+    }
+
     /// The named field's value; none exactly where the field isn't there.
     pub fn get(&self, name: &str) -> Option<&Value>
         ensures { option_map (λ v. datum_of v.now) result ≡ value_at name.now self.now }
@@ -27,6 +36,28 @@ impl Tuple {
         match place_of(&self.fields, name) {
             Ok(at) => Some(&self.fields[at].value),
             Err(_) => None,
+        }
+    }
+
+    /// The place of the named field, counted from 0 in the order of the names' bytes, and how many
+    /// fields there are where it isn't there.
+    pub fn place(&self, name: &str) -> u64
+        ensures { option_map (λ f. f.1) (slice_get self.now result) ≡ value_at name.now self.now }
+    {
+        match place_of(&self.fields, name) {
+            Ok(at) => at as u64,
+            Err(_) => self.count(),
+        }
+    }
+
+    /// The value of the field at a place, and none past the last.
+    pub fn at_place(&self, place: u64) -> Option<&Value>
+        ensures { option_map (λ v. datum_of v.now) result
+            ≡ option_map (λ f. f.1) (slice_get self.now place) }
+    {
+        match self.fields.get(place as usize) {
+            Some(field) => Some(&field.value),
+            None => None,
         }
     }
 
@@ -43,7 +74,7 @@ impl Tuple {
         requires { k < length self.now }
         ensures { (d : _) → result.now ≡ (slice_index_or self.now k d).0 }
     {
-        &self.fields[k as usize].name
+        self.fields[k as usize].name.as_text()
     }
 
     /// The value of the k-th field, counted as in `name`.
@@ -57,6 +88,46 @@ impl Tuple {
 
     /// Puts a value under a name, in place of the one that is there.
     pub fn put(&mut self, name: Text, value: Value) -> Result<(), Memory>
+        ensures ok { OnOk result (self.new ≡ put name (datum_of value) self.old) }
+        ensures err { OnErr result (self.new ≡ self.old) }
+    {
+        let name = FieldName::of(*self.fields.allocator(), name)?;
+        self.put_field(name, value)
+    }
+
+    /// The same. Where the other tuple has a field of this name, the two share its name, and no
+    /// memory is taken for it.
+    pub fn put_like(
+        &mut self,
+        other: Option<&Tuple>,
+        name: &str,
+        value: Value,
+    ) -> Result<(), Memory>
+        ensures ok { OnOk result (self.new ≡ put name.now (datum_of value) self.old) }
+        ensures err { OnErr result (self.new ≡ self.old) }
+    {
+        let alloc = *self.fields.allocator();
+        let name = match other {
+            Some(other) => other.name_like(alloc, name)?,
+            None => new_name(alloc, name)?,
+        };
+        self.put_field(name, value)
+    }
+
+    // The name, shared with the field that has it.
+    fn name_like(&self, alloc: Global, name: &str) -> Result<FieldName, Memory>
+        ensures { IfOk result (λ made. made ≡ name.now) }
+    {
+        match place_of(&self.fields, name) {
+            Ok(at) => {
+                let shared = self.fields[at].name.copy(alloc)?;
+                Ok(shared)
+            }
+            Err(_) => new_name(alloc, name),
+        }
+    }
+
+    fn put_field(&mut self, name: FieldName, value: Value) -> Result<(), Memory>
         ensures ok { OnOk result (self.new ≡ put name (datum_of value) self.old) }
         ensures err { OnErr result (self.new ≡ self.old) }
     {
@@ -84,7 +155,7 @@ impl Tuple {
     pub fn cut(&self, alloc: Global, names: &FieldList) -> Result<Tuple, Memory>
         ensures { IfOk result (λ t. t ≡ filter (λ f. is_named f.0 names.now) self.now) }
     {
-        let mut fields = Vec::new(alloc);
+        let mut fields = Vec::with_capacity(alloc, names.len().min(self.fields.len()))?;
         for field in &self.fields {
             if names.contains(field.name.as_str()) {
                 fields.push(field.copy(alloc)?)?;
@@ -108,10 +179,18 @@ impl Tuple {
     {
         let mut all = self;
         for field in &right.fields {
-            all.put(field.name.copy(alloc)?, field.value.copy(alloc)?)?;
+            let name = field.name.copy(alloc)?;
+            all.put_field(name, field.value.copy(alloc)?)?;
         }
         Ok(all)
     }
+}
+
+fn new_name(alloc: Global, name: &str) -> Result<FieldName, Memory>
+    ensures { IfOk result (λ made. made ≡ name.now) }
+{
+    let text = Text::of(alloc, name)?;
+    FieldName::of(alloc, text)
 }
 
 // Where the name is among fields in order, or where it would go.

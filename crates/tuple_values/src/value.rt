@@ -3,6 +3,7 @@ ghost use Rattle.std.specs.Prelude.{◌≡◌, ◌<◌, [], ◌∷◌, ◌++◌,
 ghost use Rattle.tuple_values.specs.Document.{doc_depth, docs_depth};
 ghost use Rattle.tuple_values.specs.Views.{doc_of};
 
+use crate::field_name::FieldName;
 use crate::{Memory, Text, TryCopy};
 use std::alloc::Global;
 use std::marker::Model;
@@ -20,7 +21,7 @@ pub enum Value {
 #[cycle(values)]
 #[derive(Debug, Drop)]
 pub struct Field {
-    pub(crate) name: Text,
+    pub(crate) name: FieldName,
     pub(crate) value: Value,
 }
 
@@ -177,7 +178,7 @@ impl Tuple {
     pub fn copy(&self, alloc: Global) -> Result<Tuple, Memory>
         ensures { IfOk result (λ copy. copy ≡ self.now) }
     {
-        let mut fields = Vec::new(alloc);
+        let mut fields = Vec::with_capacity(alloc, self.fields.len())?;
         for field in &self.fields {
             fields.push(field.copy(alloc)?)?;
         }
@@ -191,7 +192,7 @@ impl Tuples {
     pub fn copy(&self, alloc: Global) -> Result<Tuples, Memory>
         ensures { IfOk result (λ copy. copy ≡ self.now) }
     {
-        let mut items = Vec::new(alloc);
+        let mut items = Vec::with_capacity(alloc, self.items.len())?;
         for tuple in &self.items {
             items.push(tuple.copy(alloc)?)?;
         }

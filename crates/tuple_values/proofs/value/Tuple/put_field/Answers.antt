@@ -1,5 +1,5 @@
 use Rattle.tuple_values.proofs.FieldLemmas.{set_at, set_rises, insert_at, insert_rises}
-use Rattle.tuple_values.proofs.value.Tuple.put.Goals as goal
+use Rattle.tuple_values.proofs.value.Tuple.put_field.Goals as goal
 
 pub invariant_of-self : goal.invariant_of-self
 invariant_of-self c =
