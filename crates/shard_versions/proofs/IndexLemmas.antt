@@ -16,6 +16,10 @@ use Rattle.shard_versions.specs.Places.{placed, last_where}
 use Rattle.shard_versions.specs.Indexes.{written_id, is_id, is_write_of, is_delivery, id_tag, delivery_tag, sent_tag, first_place, next_of, nexts_of, before_of, relinked, greater, greatest, so_far, greatests_after}
 use Rattle.shard_versions.proofs.DeliveryLemmas.{sents-append}
 
+-- an entry that does nothing
+abbrev pub no_entry : Entry
+no_entry = record { by = 0; kind = Mark }
+
 -- what writes an id has the id's tag
 pub id_tag-right : (id : ByteList) (k : Kind) → is_write_of id k ≡ true → id_tag (written_id k) ≡ hash_of id
 id_tag-right id k h = go (written_id k) h

@@ -11,3 +11,5 @@ pub mod StateLemmas
 pub mod SnapshotLemmas
 pub mod FitLemmas
 pub mod ReadingLemmas
+pub mod LogLemmas
+pub mod StoredLemmas

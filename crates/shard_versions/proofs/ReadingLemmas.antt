@@ -1,16 +1,20 @@
 -- What a walk over the entries of a history finds.
-use Rattle.std.proofs.Common.{◌≡◌, ℕ, zero, suc, ◌+◌, ◌-◌, ◌<◌, ◌≤◌, ◌||◌, ◌&&◌, ◌==◌, not, Bool, true, false, cond, List, [], ◌∷◌, ◌++◌, length, get_or, take, drop, Option, Some, None, refl, sym, ap, ◌∙◌, arith, add-one, drop-cons, bytes_eq}
-use Rattle.std.proofs.lemmas.List.{take_more, take_all, drop_all, length-take, length-take-le, length-drop, get_or-take}
+use Rattle.std.proofs.Common.{◌≡◌, ℕ, zero, suc, ◌+◌, ◌-◌, ◌<◌, ◌≤◌, ◌||◌, ◌&&◌, ◌==◌, not, Bool, true, false, cond, List, [], ◌∷◌, ◌++◌, length, get_or, take, drop, map, Bor, Option, Some, None, refl, sym, ap, ◌∙◌, arith, add-one, drop-cons, bytes_eq}
+use Rattle.std.proofs.lemmas.List.{take_more, take_all, drop_all, length-take, length-take-le, length-drop, get_or-take, length-map}
 use Rattle.tuple_values.specs.Document.{ByteList, Doc}
 use Rattle.shard_versions.specs.Documents.{id_of}
 use Rattle.shard_versions.specs.declared.entry.Kind.{Kind}
 use Rattle.shard_versions.specs.declared.entry.Kind.TheVariants.{Put, Del, Sent, Mark}
 use Rattle.shard_versions.specs.declared.entry.Entry.{Entry}
 use Rattle.shard_versions.specs.Histories.{History, Slot, slots, slots_after, slot_of, version_after, is_mark, settled, committed, last_version, top, write_at, writes_id}
-use Rattle.shard_versions.specs.Indexes.{written_id, is_write_of, left_of, shown}
+use Rattle.shard_versions.specs.Indexes.{written_id, is_write_of, left_of}
 use Rattle.shard_versions.specs.Readings.{left_under, is_written}
 use Rattle.shard_versions.proofs.SettledLemmas.{settled-length-push, settled-take, settled-short}
-use Rattle.shard_versions.proofs.SnapshotLemmas.{writes_id-slot, last_version-slot, IsReading, reading-goes_by}
+use Rattle.shard_versions.proofs.SnapshotLemmas.{writes_id-slot, last_version-slot, IsPlacing, placing-goes_by}
+use Rattle.shard_versions.proofs.LogLemmas.{writes, slots-length, kept-push, last-push}
+use Rattle.std.specs.Prelude.{is_some, option_copied}
+use Rattle.shard_segments.specs.declared.slot.Slot as segments
+use Rattle.shard_versions.specs.Stored.{kept_slot, stored}
 
 -- whether a write has an id doesn't depend on versions
 writes_id-any : (id : ByteList) (v w : ℕ) (h : History) → writes_id id (slots_after v h) ≡ writes_id id (slots_after w h)
@@ -143,24 +147,67 @@ pub written-none : (id : ByteList) (i : ℕ) (h : History) → length h ≤ i �
 unfolding slots slots_after
 written-none id i h le = ap (λ r. writes_id id (slots_after 0 r)) (drop_all i h le)
 
--- one more document is read of the settled part
-pub reading-more : (h entries : History) (place : ℕ) (x : Entry) → entries ≡ settled h → place < length entries
+-- one more place is found in the settled part
+pub placing-more : (h entries : History) (place : ℕ) (x : Entry) → entries ≡ settled h → place < length entries
     → x ≡ get_or entries place x → (replaced : Bool)
     → replaced ≡ is_written (written_id x.kind) (take (length entries - (place + 1)) (drop (place + 1) entries))
-    → (version after : ℕ) (ps qs : List (ℕ × Doc)) → IsReading h place version ps → after ≡ version_after version x.kind
-    → qs ≡ ps ++ shown after (left_of x.kind) replaced → IsReading h (place + 1) after qs
+    → (at : ℕ) (ps qs : List ℕ) → IsPlacing h place ps → at ≡ writes (take place h)
+    → qs ≡ ps ++ cond (not replaced && is_some (left_of x.kind)) (at ∷ []) [] → IsPlacing h (place + 1) qs
 unfolding slots
-reading-more h entries place x all lt is replaced tested version after ps qs r v q =
+placing-more h entries place x all lt is replaced tested at ps qs r a q =
     let inside : place < length (settled h) = omega (arith, ap length all) in
-    let at : x ≡ get_or h place x =
+    let here : x ≡ get_or h place x =
     is ∙ ap (λ s. get_or s place x) (all ∙ sym (settled-take h)) ∙ get_or-take (length (settled h)) h place x inside in
-    reading-goes_by h place x inside at replaced
+    placing-goes_by h place x inside here replaced
     (λ id w n. tested
     ∙ ap (is_written (written_id x.kind)) (take_all (length entries - (place + 1)) (drop (place + 1) entries) (omega (arith, length-drop (place + 1) entries)))
     ∙ ap (λ o. is_written o (drop (place + 1) entries)) w
     ∙ ap (λ s. writes_id id (slots_after 0 s)) (ap (drop (place + 1)) all ∙ ap (λ k. drop k (settled h)) (add-one place))
     ∙ writes_id-any id 0 n (drop (suc place) (settled h)))
-    version after ps qs r v q
+    at ps qs r a q
+
+-- what is lent is there where what it points to is
+pub is_some-copied : {X : Type 0} (o : Option (Bor X)) → is_some (option_copied o) ≡ is_some o
+is_some-copied None = refl
+is_some-copied (Some x) = refl
+
+-- one more entry of the settled part is read into a snapshot
+pub snapshot-more : (h entries : History) (p : ℕ) (x : Entry) → entries ≡ settled h → p < length entries
+    → x ≡ get_or entries p x → (replaced held : Bool)
+    → replaced ≡ is_written (written_id x.kind) (take (length entries - (p + 1)) (drop (p + 1) entries))
+    → held ≡ is_some (left_of x.kind) → (at v w : ℕ) (ps qs : List ℕ) (ss new : List segments.Slot)
+    → IsPlacing h p ps → ss ≡ map kept_slot (slots (take p h)) → v ≡ last_version 0 (slots (take p h)) → at ≡ length ss
+    → qs ≡ ps ++ cond (not replaced && held) (at ∷ []) [] → w ≡ version_after v x.kind
+    → new ≡ ss ++ map kept_slot (slot_of w x.kind)
+    → record {
+      places : IsPlacing h (p + 1) qs;
+      kept : new ≡ map kept_slot (slots (take (p + 1) h));
+      version : w ≡ last_version 0 (slots (take (p + 1) h));
+    }
+snapshot-more h entries p x all lt is replaced held tested holds at v w ps qs ss new r k l a q after n =
+    let inside : p < length (settled h) = omega (arith, ap length all) in
+    let here : x ≡ get_or h p x =
+    is ∙ ap (λ s. get_or s p x) (all ∙ sym (settled-take h)) ∙ get_or-take (length (settled h)) h p x inside in
+    let lies : p < length h = omega (arith, inside, settled-short h) in
+    let longer : take (p + 1) h ≡ take p h ++ x ∷ [] = take_more h p x lies ∙ ap (λ y. take p h ++ y ∷ []) (sym here) in
+    let now : w ≡ version_after (last_version 0 (slots (take p h))) x.kind = after ∙ ap (λ m. version_after m x.kind) l in
+    let count : at ≡ writes (take p h) = a ∙ (ap length k ∙ (length-map (slots (take p h)) kept_slot ∙ slots-length (take p h))) in
+    record {
+      places = placing-more h entries p x all lt is replaced tested at ps qs r count
+          (q ∙ ap (λ b. ps ++ cond (not replaced && b) (at ∷ []) []) holds);
+      kept = n
+          ∙ (kept-push (take p h) x ss (map kept_slot (slot_of w x.kind)) k (ap (λ m. map kept_slot (slot_of m x.kind)) now)
+          ∙ ap (λ g. map kept_slot (slots g)) (sym longer));
+      version = now ∙ (sym (last-push (take p h) x) ∙ ap (λ g. last_version 0 (slots g)) (sym longer));
+    }
+
+-- the slots of the settled part
+pub snapshot-ends : (h : History) (p : ℕ) (ss : List segments.Slot) → length (settled h) ≤ p → p ≤ length (settled h)
+    → ss ≡ map kept_slot (slots (take p h)) → ss ≡ stored h
+unfolding stored committed
+snapshot-ends h p ss low high k =
+    let at : p ≡ length (settled h) = omega arith in
+    k ∙ ap (λ g. map kept_slot (slots g)) (ap (λ n. take n h) at ∙ settled-take h)
 
 -- what the walk for the settled part needs
 pub ruleset settled_steps = (closed-mark, closed-write, closed-short, closed-all, closed-none)

@@ -1,16 +1,18 @@
--- What is current is what a walk over the settled entries shows.
-use Rattle.std.proofs.Common.{◌≡◌, ℕ, zero, suc, ◌+◌, ◌-◌, ◌<◌, ◌≤◌, ◌||◌, ◌&&◌, Bool, true, false, cond, List, [], ◌∷◌, ◌++◌, length, get_or, take, drop, Option, Some, None, refl, sym, ap, subst, ◌∙◌, arith, append_assoc, bytes_eq, add-one, drop-cons}
-use Rattle.std.specs.Prelude.{nat_lt, nat_le}
-use Rattle.std.proofs.lemmas.List.{append-nil, drop-take, drop_all, length-take-le, get_or-take}
+-- What is current is what a walk over the settled entries finds.
+use Rattle.std.proofs.Common.{◌≡◌, ℕ, zero, suc, ◌+◌, ◌-◌, ◌<◌, ◌≤◌, ◌||◌, ◌&&◌, not, Bool, true, false, cond, List, [], ◌∷◌, ◌++◌, length, get_or, take, drop, Option, Some, None, refl, sym, ap, subst, ◌∙◌, arith, append_assoc, bytes_eq, add-one, drop-cons}
+use Rattle.std.specs.Prelude.{nat_lt, nat_le, is_some}
+use Rattle.std.proofs.lemmas.List.{append-nil, drop-take, drop_all, length-take-le, get_or-take, take_more}
 use Rattle.std.proofs.lemmas.Bool.Decides.{nat_tests}
 use Rattle.tuple_values.specs.Document.{ByteList, Doc}
-use Rattle.shard_versions.specs.Documents.{id_of, with_version}
+use Rattle.shard_versions.specs.Documents.{id_of}
 use Rattle.shard_versions.specs.declared.entry.Kind.{Kind}
 use Rattle.shard_versions.specs.declared.entry.Kind.TheVariants.{Put, Del, Sent, Mark}
 use Rattle.shard_versions.specs.declared.entry.Entry.{Entry}
-use Rattle.shard_versions.specs.Histories.{History, Slot, slots, slots_after, slot_of, version_after, settled, committed, last_version, top, writes_id, kept, latest, current}
-use Rattle.shard_versions.specs.Indexes.{written_id, is_write_of, first_place, next_of, nexts_of, left_of, shown, is_replaced}
-use Rattle.shard_versions.proofs.VersionLemmas.{last_version-append}
+use Rattle.shard_versions.specs.Histories.{History, Slot, slots, slots_after, slot_of, version_after, settled, committed, last_version, writes_id}
+use Rattle.shard_versions.specs.Stored.{latest_places, places_of}
+use Rattle.shard_versions.specs.Logs.{width}
+use Rattle.shard_versions.specs.Indexes.{written_id, is_write_of, first_place, next_of, nexts_of, left_of, is_replaced}
+use Rattle.shard_versions.proofs.LogLemmas.{writes, writes-append, last-push}
 use Rattle.shard_versions.proofs.IndexLemmas.{nexts_of-at}
 use Rattle.shard_versions.proofs.SettledLemmas.{settled-take, settled-short}
 
@@ -63,15 +65,29 @@ replaced-writes id at (suc count) v (x ∷ h) =
     go false e =
         ap (is_replaced (first_place id (suc at) h)) (let s : at + suc count ≡ suc at + count = omega arith in s) ∙ e
 
--- what is latest among slots that begin with an entry's
-latest-slot : (v : ℕ) (k : Kind) (ss : List Slot) (replaced : Bool)
+and_true : (b : Bool) → b ≡ (b && true)
+and_true true = refl
+and_true false = refl
+
+and_false : (b : Bool) → false ≡ (b && false)
+and_false true = refl
+and_false false = refl
+
+-- the places of what is latest among slots that begin with an entry's
+latest_places-slot : (at v : ℕ) (k : Kind) (ss : List Slot) (replaced : Bool)
     → ((id : ByteList) → written_id k ≡ Some id → replaced ≡ writes_id id ss)
-    → latest (slot_of v k ++ ss) ≡ shown v (left_of k) replaced ++ latest ss
-unfolding latest
-latest-slot v (Put d) ss replaced f = ap (λ b. cond b [] ((v, with_version v d) ∷ []) ++ latest ss) (sym (f (id_of d) refl))
-latest-slot v (Del i) ss replaced f = refl
-latest-slot v (Sent s w d) ss replaced f = ap (λ b. cond b [] ((v, with_version v d) ∷ []) ++ latest ss) (sym (f (id_of d) refl))
-latest-slot v Mark ss replaced f = refl
+    → latest_places at (slot_of v k ++ ss) ≡ cond (not replaced && is_some (left_of k)) (at ∷ []) [] ++ latest_places (at + width k) ss
+unfolding latest_places
+latest_places-slot at v (Put d) ss replaced f =
+    ap (λ b. cond (not b) (at ∷ []) [] ++ latest_places (at + 1) ss) (sym (f (id_of d) refl))
+    ∙ ap (λ b. cond b (at ∷ []) [] ++ latest_places (at + 1) ss) (and_true (not replaced))
+latest_places-slot at v (Del i) ss replaced f = ap (λ b. cond b (at ∷ []) [] ++ latest_places (at + 1) ss) (and_false (not replaced))
+latest_places-slot at v (Sent s w d) ss replaced f =
+    ap (λ b. cond (not b) (at ∷ []) [] ++ latest_places (at + 1) ss) (sym (f (id_of d) refl))
+    ∙ ap (λ b. cond b (at ∷ []) [] ++ latest_places (at + 1) ss) (and_true (not replaced))
+latest_places-slot at v Mark ss replaced f =
+    ap (λ n. latest_places n ss) (let z : at ≡ at + 0 = omega arith in z)
+    ∙ ap (λ b. cond b (at ∷ []) [] ++ latest_places (at + 0) ss) (and_false (not replaced))
 
 -- the version after an entry's slot
 pub last_version-slot : (v : ℕ) (k : Kind) (ss : List Slot)
@@ -88,30 +104,29 @@ version_after-next v (Del i) = omega arith
 version_after-next v (Sent s w d) = omega arith
 version_after-next v Mark = omega arith
 
--- how far a walk over a history has come: what is shown so far and what is current of the rest
-pub record IsReading (h : History) (place version : ℕ) (ps : List (ℕ × Doc)) : Type 0 where
-  pub documents : ps ++ latest (slots_after version (drop place (settled h))) ≡ current h
-  pub reached : last_version version (slots_after version (drop place (settled h))) ≡ top h
-  pub few : version ≤ place
+-- how far a walk over a history has come: the places so far and those of the rest
+pub record IsPlacing (h : History) (place : ℕ) (ps : List ℕ) : Type 0 where
+  pub places : ps
+      ++ latest_places (writes (take place h))
+      (slots_after (last_version 0 (slots (take place h))) (drop place (settled h)))
+      ≡ places_of h
 
--- a reading begins with nothing
-pub reading-begins : (h : History) (ps : List (ℕ × Doc)) → ps ≡ [] → IsReading h 0 0 ps
-unfolding current top committed slots
-reading-begins h ps e = record {
-  documents = ap (λ r. r ++ latest (slots_after 0 (settled h))) e;
-  reached = refl;
-  few = omega arith;
+-- it begins with no place
+pub placing-begins : (h : History) (ps : List ℕ) → ps ≡ [] → IsPlacing h 0 ps
+unfolding places_of committed slots slots_after
+placing-begins h ps e = record {
+  places = ap (λ r. r ++ latest_places 0 (slots_after 0 (settled h))) e;
 }
 
 -- it ends at the last Mark
-pub reading-ends : (h : History) (place version : ℕ) (ps : List (ℕ × Doc)) → length (settled h) ≤ place
-    → IsReading h place version ps → (ps ≡ current h) × (version ≡ top h)
-unfolding latest slots_after
-reading-ends h place version ps le r =
-    let over : drop place (settled h) ≡ [] = drop_all place (settled h) le in (
-      sym (append-nil ps) ∙ (ap (λ e. ps ++ latest (slots_after version e)) (sym over) ∙ r.documents),
-      ap (λ e. last_version version (slots_after version e)) (sym over) ∙ r.reached,
-    )
+pub placing-ends : (h : History) (place : ℕ) (ps : List ℕ) → length (settled h) ≤ place → IsPlacing h place ps
+    → ps ≡ places_of h
+unfolding latest_places slots_after
+placing-ends h place ps le r =
+    let over : drop place (settled h) ≡ [] = drop_all place (settled h) le in
+    sym (append-nil ps)
+    ∙ (ap (λ e. ps ++ latest_places (writes (take place h)) (slots_after (last_version 0 (slots (take place h))) e)) (sym over)
+    ∙ r.places)
 
 module _ (h : History) (place : ℕ) (x : Entry) (inside : place < length (settled h)) (is : x ≡ get_or h place x) where
   private_rest : drop place (settled h) ≡ x ∷ drop (suc place) (settled h)
@@ -143,31 +158,44 @@ module _ (h : History) (place : ℕ) (x : Entry) (inside : place < length (settl
       ∙ ap (λ e. writes_id id (slots_after v e)) (sym rest)))
 
   -- it goes on by one entry, of which it is known whether a later one replaces it
-  pub reading-goes_by : (replaced : Bool)
+  pub placing-goes_by : (replaced : Bool)
       → ((id : ByteList) → written_id x.kind ≡ Some id → (v : ℕ) → replaced ≡ writes_id id (slots_after v (drop (suc place) (settled h))))
-      → (version after : ℕ) (ps qs : List (ℕ × Doc)) → IsReading h place version ps → after ≡ version_after version x.kind
-      → qs ≡ ps ++ shown after (left_of x.kind) replaced → IsReading h (place + 1) after qs
+      → (at : ℕ) (ps qs : List ℕ) → IsPlacing h place ps → at ≡ writes (take place h)
+      → qs ≡ ps ++ cond (not replaced && is_some (left_of x.kind)) (at ∷ []) [] → IsPlacing h (place + 1) qs
   unfolding slots_after
-  reading-goes_by replaced f version after ps qs r v q =
-      let now : ℕ = version_after version x.kind in
+  placing-goes_by replaced f at ps qs r a q =
+      let v : ℕ = last_version 0 (slots (take place h)) in
+      let now : ℕ = version_after v x.kind in
       let ss : List Slot = slots_after now (drop (suc place) (settled h)) in
-      let first : latest (slot_of now x.kind ++ ss) ≡ shown now (left_of x.kind) replaced ++ latest ss =
-      latest-slot now x.kind ss replaced (λ id w. f id w now) in
-      let all : latest (slots_after version (drop place (settled h))) ≡ shown now (left_of x.kind) replaced ++ latest ss =
-      ap (λ e. latest (slots_after version e)) private_rest ∙ first in
-      let last : last_version version (slots_after version (drop place (settled h))) ≡ last_version now ss =
-      ap (λ e. last_version version (slots_after version e)) private_rest ∙ last_version-slot version x.kind ss in
-      rw (add-one place, q, v) record {
-        documents = append_assoc ps (shown now (left_of x.kind) replaced) (latest ss) ∙ (ap (λ e. ps ++ e) (sym all) ∙ r.documents);
-        reached = sym last ∙ r.reached;
-        few = omega (arith, r.few, version_after-next version x.kind);
+      let lt : place < length h = omega (arith, inside, settled-short h) in
+      let here : List ℕ = cond (not replaced && is_some (left_of x.kind)) (at ∷ []) [] in
+      let longer : take (place + 1) h ≡ take place h ++ x ∷ [] = take_more h place x lt ∙ ap (λ y. take place h ++ y ∷ []) (sym is) in
+      let last : last_version 0 (slots (take (place + 1) h)) ≡ now =
+      ap (λ s. last_version 0 (slots s)) longer ∙ last-push (take place h) x in
+      let count : writes (take (place + 1) h) ≡ at + width x.kind =
+      ap writes longer ∙ omega (arith, writes-append (take place h) (x ∷ []), a) in
+      let first : latest_places at (slot_of now x.kind ++ ss) ≡ here ++ latest_places (at + width x.kind) ss =
+      latest_places-slot at now x.kind ss replaced (λ id w. f id w now) in
+      let all : latest_places (writes (take place h)) (slots_after v (drop place (settled h))) ≡ here ++ latest_places (at + width x.kind) ss =
+      ap (λ e. latest_places (writes (take place h)) (slots_after v e)) private_rest
+      ∙ (ap (λ n. latest_places n (slot_of now x.kind ++ ss)) (sym a) ∙ first) in
+      let rest : latest_places (writes (take (place + 1) h)) (slots_after (last_version 0 (slots (take (place + 1) h))) (drop (place + 1) (settled h)))
+      ≡ latest_places (at + width x.kind) ss =
+      ap (λ n. latest_places n (slots_after (last_version 0 (slots (take (place + 1) h))) (drop (place + 1) (settled h)))) count
+      ∙ (ap (λ w. latest_places (at + width x.kind) (slots_after w (drop (place + 1) (settled h)))) last
+      ∙ ap (λ n. latest_places (at + width x.kind) (slots_after now (drop n (settled h)))) (add-one place)) in
+      record {
+        places = ap (λ r. qs ++ r) rest
+            ∙ (ap (λ r. r ++ latest_places (at + width x.kind) ss) q
+            ∙ (append_assoc ps here (latest_places (at + width x.kind) ss)
+            ∙ (ap (λ r. ps ++ r) (sym all) ∙ r.places)));
       }
 
   -- it goes on by one entry
-  pub reading-goes : (next version after : ℕ) (ns : List ℕ) (ps qs : List (ℕ × Doc)) → IsReading h place version ps
-      → ns ≡ nexts_of 0 h → next ≡ get_or ns place next → after ≡ version_after version x.kind
-      → qs ≡ ps ++ shown after (left_of x.kind) (is_replaced next (length (settled h)))
-      → IsReading h (place + 1) after qs
-  reading-goes next version after ns ps qs r right at v q =
-      reading-goes_by (is_replaced next (length (settled h))) (λ id w n. replaced-right next ns right at id w n)
-      version after ps qs r v q
+  pub placing-goes : (next at : ℕ) (ns ps qs : List ℕ) → IsPlacing h place ps → ns ≡ nexts_of 0 h
+      → next ≡ get_or ns place next → at ≡ writes (take place h)
+      → qs ≡ ps ++ cond (not (is_replaced next (length (settled h))) && is_some (left_of x.kind)) (at ∷ []) []
+      → IsPlacing h (place + 1) qs
+  placing-goes next at ns ps qs r right reads a q =
+      placing-goes_by (is_replaced next (length (settled h))) (λ id w n. replaced-right next ns right reads id w n)
+      at ps qs r a q

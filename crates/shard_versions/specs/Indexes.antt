@@ -105,12 +105,6 @@ left_of (Del id) = None
 left_of (Sent src version doc) = Some doc
 left_of Mark = None
 
--- what is read of a write: its document in its version, unless it is replaced
-abbrev pub shown : ℕ → Option Doc → Bool → List (ℕ × Doc)
-shown version None replaced = []
-shown version (Some doc) replaced =
-    if replaced then [] else (version, with_version version doc) ∷ []
-
 -- the next write stands among the first so many entries
 abbrev pub is_replaced : ℕ → ℕ → Bool
 is_replaced next count = nat_lt 0 next && nat_le next count

@@ -1,12 +1,15 @@
 pub mod Documents
 pub mod Histories
+pub mod Stored
+pub mod Logs
+pub mod Logging
 pub mod Deliveries
 pub mod Fitness
 pub mod Sizes
 pub mod Shards
-pub mod Rows
 pub mod Places
 pub mod Links
 pub mod Indexes
 pub mod States
+pub mod Snapshots
 pub mod Readings

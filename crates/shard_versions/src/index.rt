@@ -4,9 +4,10 @@ ghost use Rattle.shard_versions.specs.Deliveries.{sents};
 ghost use Rattle.shard_versions.specs.Places.{last_where};
 ghost use Rattle.shard_versions.specs.Indexes.{written_id, is_write_of, is_delivery, id_tag, delivery_tag, sent_tag, before_of, relinked, greatest, so_far, greatests_after, is_replaced};
 
+use crate::Kind;
 use crate::chain::Chain;
 use crate::document::id_of;
-use crate::{Entry, Kind};
+use crate::log::Log;
 use tuple_values::fnv1a;
 
 /// The id that the entry writes.
@@ -59,30 +60,15 @@ pub(crate) fn is_write_of(kind: &Kind, id: &str) -> bool
     }
 }
 
-fn is_delivery(kind: &Kind, src: &str, id: &str) -> bool
-    ensures { result ≡ is_delivery src.now id.now kind.now }
-{
-    match kind {
-        Kind::Sent {
-            src: from,
-            document,
-            ..
-        } => src == from.as_str() && id == id_of(document),
-        Kind::Put(_) => false,
-        Kind::Del(_) => false,
-        Kind::Mark => false,
-    }
-}
-
 /// One more than the place of the id's last write, and 0 where it has none.
-fn last_write(entries: &[Entry], ids: &Chain, id: &str) -> usize
-    requires { ids.now.tags ≡ map (λ e. id_tag (written_id e.kind)) entries.now }
-    ensures { result ≡ last_where (λ e. is_write_of id.now e.kind) entries.now }
+fn last_write(log: &Log, ids: &Chain, id: &str) -> usize
+    requires { ids.now.tags ≡ map (λ e. id_tag (written_id e.kind)) log.now.entries }
+    ensures { result ≡ last_where (λ e. is_write_of id.now e.kind) log.now.entries }
 {
     let mut at = ids.last(u64::from(fnv1a(id.as_bytes())));
     while at > 0 {
         let place = at - 1;
-        if is_write_of(&entries[place].kind, id) {
+        if log.is_write_of(place, id) {
             return at;
         }
         at = ids.before(place);
@@ -91,25 +77,25 @@ fn last_write(entries: &[Entry], ids: &Chain, id: &str) -> usize
 }
 
 /// The same of the last write of the id that the entry writes.
-pub(crate) fn place_before(entries: &[Entry], ids: &Chain, kind: &Kind) -> usize
-    requires { ids.now.tags ≡ map (λ e. id_tag (written_id e.kind)) entries.now }
-    ensures { result ≡ before_of (written_id kind.now) entries.now }
+pub(crate) fn place_before(log: &Log, ids: &Chain, kind: &Kind) -> usize
+    requires { ids.now.tags ≡ map (λ e. id_tag (written_id e.kind)) log.now.entries }
+    ensures { result ≡ before_of (written_id kind.now) log.now.entries }
 {
     match written_id(kind) {
-        Some(id) => last_write(entries, ids, id),
+        Some(id) => last_write(log, ids, id),
         None => 0,
     }
 }
 
 /// One more than the place of the last delivery of the source and id, and 0 where there is none.
-fn last_delivery(entries: &[Entry], sends: &Chain, src: &str, id: &str) -> usize
-    requires { sends.now.tags ≡ map (λ e. sent_tag e.kind) entries.now }
-    ensures { result ≡ last_where (λ e. is_delivery src.now id.now e.kind) entries.now }
+fn last_delivery(log: &Log, sends: &Chain, src: &str, id: &str) -> usize
+    requires { sends.now.tags ≡ map (λ e. sent_tag e.kind) log.now.entries }
+    ensures { result ≡ last_where (λ e. is_delivery src.now id.now e.kind) log.now.entries }
 {
     let mut at = sends.last(delivery_tag(src, id));
     while at > 0 {
         let place = at - 1;
-        if is_delivery(&entries[place].kind, src, id) {
+        if log.is_delivery(place, src, id) {
             return at;
         }
         at = sends.before(place);
@@ -119,17 +105,17 @@ fn last_delivery(entries: &[Entry], sends: &Chain, src: &str, id: &str) -> usize
 
 /// The greatest version that was delivered from the source under the id.
 pub(crate) fn greatest_sent(
-    entries: &[Entry],
+    log: &Log,
     greatests: &[u64],
     sends: &Chain,
     src: &str,
     id: &str,
 ) -> Option<u64>
-    requires tags { sends.now.tags ≡ map (λ e. sent_tag e.kind) entries.now }
-    requires greatests { greatests.now ≡ greatests_after [] entries.now }
-    ensures { result ≡ greatest (sents src.now id.now entries.now) }
+    requires tags { sends.now.tags ≡ map (λ e. sent_tag e.kind) log.now.entries }
+    requires greatests { greatests.now ≡ greatests_after [] log.now.entries }
+    ensures { result ≡ greatest (sents src.now id.now log.now.entries) }
 {
-    let at = last_delivery(entries, sends, src, id);
+    let at = last_delivery(log, sends, src, id);
     if at == 0 {
         return None;
     }
@@ -137,10 +123,10 @@ pub(crate) fn greatest_sent(
 }
 
 /// The same with this entry, and 0 for what is no delivery.
-pub(crate) fn so_far(entries: &[Entry], greatests: &[u64], sends: &Chain, kind: &Kind) -> u64
-    requires tags { sends.now.tags ≡ map (λ e. sent_tag e.kind) entries.now }
-    requires greatests { greatests.now ≡ greatests_after [] entries.now }
-    ensures { result ≡ so_far entries.now kind.now }
+pub(crate) fn so_far(log: &Log, greatests: &[u64], sends: &Chain, kind: &Kind) -> u64
+    requires tags { sends.now.tags ≡ map (λ e. sent_tag e.kind) log.now.entries }
+    requires greatests { greatests.now ≡ greatests_after [] log.now.entries }
+    ensures { result ≡ so_far log.now.entries kind.now }
 {
     match kind {
         Kind::Sent {
@@ -148,7 +134,7 @@ pub(crate) fn so_far(entries: &[Entry], greatests: &[u64], sends: &Chain, kind: 
             version,
             document,
         } => {
-            let greatest = greatest_sent(entries, greatests, sends, src.as_str(), id_of(document));
+            let greatest = greatest_sent(log, greatests, sends, src.as_str(), id_of(document));
             (*version).max(greatest.unwrap_or(0))
         }
         Kind::Put(_) => 0,

@@ -8,6 +8,7 @@ mod entry;
 mod fault;
 mod fitness;
 mod index;
+mod log;
 mod reading;
 mod shard;
 mod size;

@@ -1,13 +1,16 @@
 // A history that is read as it stands, without the state of a shard.
-ghost use Rattle.std.specs.Prelude.{◌≡◌, ◌==◌, ◌&&◌, not, IfOk, length, option_copied};
+ghost use Rattle.std.specs.Prelude.{◌≡◌, ◌==◌, ◌&&◌, ◌^◌, ◌<◌, ◌++◌, not, map, IfOk, OnOk, length, option_copied};
+ghost use Rattle.shard_versions.specs.Stored.{kept_slot};
 ghost use Rattle.shard_versions.specs.Histories.{is_mark, settled, slot_of, slots, top, current};
 ghost use Rattle.shard_versions.specs.Histories.{write_at, writes_id};
 ghost use Rattle.shard_versions.specs.Readings.{is_written, left_under};
 ghost use Rattle.shard_versions.specs.Indexes.{written_id};
 
 use crate::index::{is_write_of, written_id};
-use crate::snapshot::{left, push_row, version_after};
+use crate::log::{last_of, push_slot, slot_for};
+use crate::snapshot::{left, push_current, version_after};
 use crate::{Entry, Kind, Snapshot};
+use shard_segments::Chunks;
 use std::alloc::Global;
 use tuple_values::{Memory, Tuple};
 
@@ -112,17 +115,32 @@ pub fn snapshot_of(alloc: Global, history: &[Entry]) -> Result<Snapshot, Memory>
     ensures documents { IfOk result (λ s. s.documents ≡ current history.now) }
 {
     let entries = settled(history);
+    let mut chunks = Chunks::empty(alloc);
     let mut version: u64 = 0;
-    let mut rows = Vec::new(alloc);
+    let mut places = Vec::new(alloc);
     for place in 0..entries.len() {
         let kind = &entries[place].kind;
         let replaced = is_written(&entries[place + 1..], kind);
+        push_current(&mut places, chunks.len(), replaced, left(kind).is_some())?;
         version = version_after(version, kind);
-        push_row(alloc, &mut rows, version, kind, replaced)?;
+        keep(alloc, &mut chunks, version, kind)?;
     }
     Ok(Snapshot {
-        reached: version,
+        reached: last_of(&chunks),
         seen: history.len() as u64,
-        rows,
+        chunks,
+        places,
     })
+}
+
+// Adds the slot of a write in this version.
+fn keep(alloc: Global, chunks: &mut Chunks, version: u64, kind: &Kind) -> Result<(), Memory>
+    requires { version < 2 ^ 63 }
+    ensures { OnOk result (chunks.new.slots
+        ≡ chunks.old.slots ++ map kept_slot (slot_of version kind.now)) }
+{
+    let slot = slot_for(alloc, version, kind, None)?;
+    chunks.reserve(1)?;
+    push_slot(chunks, slot);
+    Ok(())
 }

@@ -1,7 +1,10 @@
 // The state of a shard.
 ghost use Rattle.std.specs.Prelude.{◌≡◌, ◌+◌, ◌-◌, ◌<◌, ◌≤◌, ◌^◌, ◌++◌, ◌∷◌, ◌↔◌, [], length, min, IsErrOf, OnErr, OnOk, IfOk, List, if◌then◌else◌};
 ghost use Rattle.shard_versions.specs.declared.entry.Entry.{Entry};
-ghost use Rattle.shard_versions.specs.Histories.{is_mark, is_pending, top, current};
+ghost use Rattle.shard_versions.specs.Histories.{is_mark, is_pending, settled, slots, last_version, top, current};
+ghost use Rattle.shard_versions.specs.Stored.{stored, places_of};
+ghost use Rattle.shard_versions.specs.Indexes.{nexts_of};
+ghost use Rattle.shard_versions.specs.Logs.{made_entry, IsMade};
 ghost use Rattle.shard_versions.specs.Deliveries.{admits};
 ghost use Rattle.shard_versions.specs.Fitness.{AreStorable};
 ghost use Rattle.shard_versions.specs.Sizes.{entries_bytes};
@@ -9,11 +12,14 @@ ghost use Rattle.shard_versions.specs.Shards.{HasRoom};
 
 use crate::chain::Chain;
 use crate::index::{greatest_sent, id_tag, is_replaced, place_before, relink, sent_tag, so_far};
+use crate::log::{Log, Made, last_of, made_all};
 use crate::size::{entries_bytes, kind_bytes};
-use crate::snapshot::{push_row, version_after};
+use crate::snapshot::push_current;
 use crate::{Entry, Kind, ShardFault, Snapshot, Step};
 use std::alloc::Global;
+use std::collections::VecDeque;
 use std::marker::Model;
+use std::mem;
 use tuple_values::{Memory, Text};
 
 /// A shard with its whole history. What it keeps beside the entries, it keeps by their places,
@@ -21,7 +27,7 @@ use tuple_values::{Memory, Text};
 /// the greatest version so far of its source and id, and where the last Mark stands.
 #[derive(Debug, Drop)]
 pub struct ShardState {
-    entries: Vec<Entry>,
+    log: Log,
     nexts: Vec<usize>,
     greatests: Vec<u64>,
     ids: Chain,
@@ -30,6 +36,7 @@ pub struct ShardState {
     bytes: u64,
     limit: u64,
     room: u64,
+    ready: VecDeque<Made>,
 }
 
 impl Model for ShardState {
@@ -58,7 +65,7 @@ impl ShardState {
         ensures limit { result.limit ≡ limit }
     {
         ShardState {
-            entries: Vec::new(alloc),
+            log: Log::empty(alloc),
             nexts: Vec::new(alloc),
             greatests: Vec::new(alloc),
             ids: Chain::empty(alloc),
@@ -67,6 +74,7 @@ impl ShardState {
             bytes: 0,
             limit,
             room: 0,
+            ready: VecDeque::new(alloc),
         }
     }
 
@@ -76,7 +84,7 @@ impl ShardState {
         ensures count { result ≡ length self.now.entries }
         ensures room { (step : List Entry) → HasRoom self.now step → result + length step < 2 ^ 63 }
     {
-        self.entries.len() as u64
+        self.log.len() as u64
     }
 
     /// The counted bytes of the entries, and `u64::MAX` where they are more.
@@ -91,7 +99,7 @@ impl ShardState {
     pub fn pending(&self) -> bool
         ensures { result ≡ is_pending self.now.entries }
     {
-        self.closed < self.entries.len()
+        self.closed < self.log.len()
     }
 
     /// Whether a delivery from the source under the id is newer than all that there are.
@@ -100,7 +108,7 @@ impl ShardState {
         ensures { result ≡ admits self.now.entries src.now id.now version }
     {
         match greatest_sent(
-            &self.entries,
+            &self.log,
             &self.greatests,
             &self.sends,
             src.as_str(),
@@ -111,26 +119,30 @@ impl ShardState {
         }
     }
 
-    /// The shard as it is now, with a copy of its current documents.
+    /// The shard as it is now. No document is copied.
     pub fn snapshot(&self, alloc: Global) -> Result<Snapshot, Memory>
         ensures top { IfOk result (λ s. s.top ≡ top self.now.entries) }
         ensures upto { IfOk result (λ s. s.upto ≡ length self.now.entries) }
         ensures documents { IfOk result (λ s. s.documents ≡ current self.now.entries) }
+        ensures slots { IfOk result (λ s. s.slots ≡ stored self.now.entries) }
+        ensures places { IfOk result (λ s. s.places ≡ places_of self.now.entries) }
     {
-        let mut version: u64 = 0;
-        let mut rows = Vec::new(alloc);
-        for place in 0..self.closed {
-            let kind = &self.entries[place].kind;
-            let next = self.nexts[place];
-            let replaced = is_replaced(next, self.closed);
-            version = version_after(version, kind);
-            push_row(alloc, &mut rows, version, kind, replaced)?;
-        }
+        let chunks = self.log.share(alloc, self.log.at(self.closed))?;
+        let places = current_places(alloc, &self.log, &self.nexts, self.closed)?;
         Ok(Snapshot {
-            reached: version,
-            seen: self.entries.len() as u64,
-            rows,
+            reached: last_of(&chunks),
+            seen: self.log.len() as u64,
+            chunks,
+            places,
         })
+    }
+
+    /// The entries alone. Their documents are copied out of the slots, which snapshots may share.
+    pub fn into_entries(self, alloc: Global) -> Result<Step, Memory>
+        ensures { IfOk result (λ entries. entries ≡ self.entries) }
+    {
+        let entries = self.log.entries(alloc)?;
+        Ok(entries)
     }
 
     /// Makes room for one append of this step.
@@ -148,11 +160,15 @@ impl ShardState {
         if self.bytes.saturating_add(entries_bytes(step.as_slice())) > self.limit {
             return Err(ShardFault::ShardFull);
         }
-        self.entries.reserve(more)?;
+        self.log.reserve(more)?;
         self.nexts.reserve(more)?;
         self.greatests.reserve(more)?;
         self.ids.reserve(more)?;
         self.sends.reserve(more)?;
+        let alloc = *self.nexts.allocator();
+        // With so many entries versions are signed 64-bit numbers.
+        let _count = self.log.len();
+        self.ready = made_all(alloc, self.log.last(), step.as_slice())?;
         self.room = more as u64;
         Ok(())
     }
@@ -165,20 +181,30 @@ impl ShardState {
         ensures entries { self.new.entries ≡ self.old.entries ++ step }
         ensures limit { self.new.limit ≡ self.old.limit }
     {
-        for entry in step.into_vec() {
-            self.push(entry);
+        let alloc = *self.nexts.allocator();
+        let mut ready = mem::replace(&mut self.ready, VecDeque::new(alloc));
+        for entry in step.as_slice() {
+            let Some(made) = ready.pop_front() else {
+                unreachable!();
+            };
+            self.push(entry, made);
         }
     }
 
-    fn push(&mut self, entry: Entry)
-        requires { 0 < self.old.room }
-        ensures entries { self.new.entries ≡ self.old.entries ++ entry ∷ [] }
+    // Adds an entry as it is made ready.
+    fn push(&mut self, entry: &Entry, made: Made)
+        requires room { 0 < self.old.room }
+        requires is { made_entry made ≡ entry.now }
+        requires made { IsMade (last_version 0 (slots self.old.entries)) made }
+        requires ready { self.old.ready ≡ [] }
+        ensures entries { self.new.entries ≡ self.old.entries ++ entry.now ∷ [] }
         ensures limit { self.new.limit ≡ self.old.limit }
         ensures room { self.new.room + 1 ≡ self.old.room }
+        ensures ready { self.new.ready ≡ [] }
     {
-        let place = self.entries.len() + 1;
-        let before = place_before(&self.entries, &self.ids, &entry.kind);
-        let greatest = so_far(&self.entries, &self.greatests, &self.sends, &entry.kind);
+        let place = self.log.len() + 1;
+        let before = place_before(&self.log, &self.ids, &entry.kind);
+        let greatest = so_far(&self.log, &self.greatests, &self.sends, &entry.kind);
         relink(&mut self.nexts, before, place);
         self.nexts.push_reserved(0);
         self.greatests.push_reserved(greatest);
@@ -187,8 +213,32 @@ impl ShardState {
         self.closed = closed_with(self.closed, place, &entry.kind);
         self.bytes = self.bytes.saturating_add(kind_bytes(&entry.kind));
         self.room -= 1;
-        self.entries.push_reserved(entry);
+        self.log.push(made);
     }
+}
+
+// The places, among the slots of the writes, of those whose documents are current.
+fn current_places(
+    alloc: Global,
+    log: &Log,
+    nexts: &[usize],
+    closed: usize,
+) -> Result<Vec<u64>, Memory>
+    requires nexts { nexts.now ≡ nexts_of 0 log.now.entries }
+    requires closed { closed ≡ length (settled log.now.entries) }
+    ensures { IfOk result (λ places. places.items ≡ places_of log.now.entries) }
+{
+    let mut places = Vec::new(alloc);
+    for place in 0..closed {
+        let replaced = is_replaced(nexts[place], closed);
+        push_current(
+            &mut places,
+            log.at(place) as u64,
+            replaced,
+            log.has_document(place),
+        )?;
+    }
+    Ok(places)
 }
 
 /// How many entries there are up to the last Mark, with one more entry at this place.

@@ -1,42 +1,38 @@
 // A shard as it was read.
-ghost use Rattle.std.specs.Prelude.{◌≡◌, ◌+◌, ◌<◌, ◌^◌, ◌++◌, OnOk, length, map, slice_index_or, option_copied};
+ghost use Rattle.std.specs.Prelude.{◌≡◌, ◌+◌, ◌<◌, ◌^◌, ◌++◌, ◌∷◌, [], ◌&&◌, not, if◌then◌else◌, OnOk, Some, length, slice_index, slice_index_or, option_copied};
 ghost use Rattle.shard_versions.specs.Histories.{version_after};
-ghost use Rattle.shard_versions.specs.Indexes.{left_of, shown};
-ghost use Rattle.shard_versions.specs.Rows.{pair_of};
+ghost use Rattle.shard_versions.specs.Indexes.{left_of};
 
 use crate::Kind;
-use crate::document::with_version;
-use std::alloc::Global;
+use shard_segments::Chunks;
 use std::marker::Model;
 use tuple_values::{Memory, Tuple};
 
-/// A document in the version in which it is current.
-#[derive(Debug, Drop)]
-pub(crate) struct Row {
-    pub(crate) version: u64,
-    pub(crate) document: Tuple,
-}
-
-/// A shard as it was read: its top, the number of entries seen, and its current documents.
+/// A shard as it was read: its top, the number of entries seen, the slots of its writes up to the
+/// top, and the places of the current ones among them.
 #[derive(Debug, Drop)]
 pub struct Snapshot {
     pub(crate) reached: u64,
     pub(crate) seen: u64,
-    pub(crate) rows: Vec<Row>,
+    pub(crate) chunks: Chunks,
+    pub(crate) places: Vec<u64>,
 }
 
 impl Model for Snapshot {
-    ghost use Rattle.std.specs.Prelude.{map};
     ghost use Rattle.shard_versions.specs.Shards.{Shown, shown_code};
 
     ghost Value = { Shown };
 
-    ghost coded = { shown_code };
+    ghost use Rattle.shard_segments.specs.contracts.slot.Slot as slot;
+    ghost use Rattle.std.specs.Coded.{codes};
 
-    ghost use Rattle.shard_versions.specs.Rows.{pair_of};
+    ghost coded = { shown_code (Prim.hlevel (codes, slot.the_row.coded)) };
 
-    ghost view = { λ s.
-        record { top = s.reached; upto = s.seen; documents = map pair_of s.rows.items } };
+    ghost use Rattle.shard_versions.specs.Snapshots.{shown_in, AreHeld};
+
+    ghost view = { shown_in };
+
+    ghost invariant = { λ s. AreHeld s.chunks.slots s.places.items };
 }
 
 impl Snapshot {
@@ -58,7 +54,7 @@ impl Snapshot {
     pub fn count(&self) -> u64
         ensures { result ≡ length self.now.documents }
     {
-        self.rows.len() as u64
+        self.places.len() as u64
     }
 
     /// The version of the k-th current document, counted from 0 by version.
@@ -66,7 +62,7 @@ impl Snapshot {
         requires { k < length self.now.documents }
         ensures { (d : _) → result ≡ (slice_index_or self.now.documents k d).0 }
     {
-        self.rows[k as usize].version
+        self.chunks.get(self.places[k as usize]).version
     }
 
     /// The k-th current document, with its version in the field `_version_`.
@@ -74,7 +70,31 @@ impl Snapshot {
         requires { k < length self.now.documents }
         ensures { (d : _) → result.now ≡ (slice_index_or self.now.documents k d).1 }
     {
-        &self.rows[k as usize].document
+        match &self.chunks.get(self.places[k as usize]).document {
+            Some(document) => document.tuple(),
+            None => unreachable!(),
+        }
+    }
+
+    /// The slots of the shard's writes up to the top, in their order. Takes no memory.
+    pub fn chunks(&self) -> &Chunks
+        ensures { result.now.slots ≡ self.now.slots }
+    {
+        &self.chunks
+    }
+
+    /// The place in `chunks` of the slot of the k-th current document. Takes no memory.
+    pub fn place(&self, k: u64) -> u64
+        requires { k < length self.now.documents }
+        ensures place { result ≡ slice_index self.now.places k }
+        ensures in_range { result < length self.now.slots }
+        ensures slot { (d e : _) → slice_index_or self.now.slots result d
+            ≡ record {
+              version = (slice_index_or self.now.documents k e).0;
+              document = Some (slice_index_or self.now.documents k e).1;
+            } }
+    {
+        self.places[k as usize]
     }
 }
 
@@ -103,25 +123,19 @@ pub(crate) fn left(kind: &Kind) -> Option<&Tuple>
     }
 }
 
-/// Adds what is read of a write of this version.
-pub(crate) fn push_row(
-    alloc: Global,
-    rows: &mut Vec<Row>,
-    version: u64,
-    kind: &Kind,
+/// Adds the place of a write's slot where its document is current: it isn't replaced, and there is
+/// one.
+pub(crate) fn push_current(
+    places: &mut Vec<u64>,
+    at: u64,
     replaced: bool,
+    held: bool,
 ) -> Result<(), Memory>
-    requires { version < 2 ^ 63 }
-    ensures { OnOk result
-        (map pair_of rows.new.items
-        ≡ map pair_of rows.old.items ++ shown version (left_of kind.now) replaced) }
+    ensures { OnOk result (places.new.items
+        ≡ places.old.items ++ (if not replaced && held then at ∷ [] else [])) }
 {
-    if replaced {
-        return Ok(());
-    }
-    if let Some(document) = left(kind) {
-        let document = with_version(alloc, document, version)?;
-        rows.push(Row { version, document })?;
+    if !replaced && held {
+        places.push(at)?;
     }
     Ok(())
 }

@@ -8,7 +8,7 @@ ghost use Rattle.topic_book.specs.States.{HasRoom, IsOpen, IsRefusal, IsOpenFor,
 
 use crate::alike::is_alike;
 use crate::topics::{Topic, exceeds, note, topic_of};
-use crate::{Binding, BookEntry, BookFault, TopicKey};
+use crate::{Binding, BookEntries, BookEntry, BookFault, TopicKey};
 use std::alloc::Global;
 use std::marker::Model;
 use tuple_values::{Memory, TryCopy, Versions};
@@ -151,6 +151,22 @@ impl BookState {
             Some(topic) => exceeds(topic.upto.as_slice(), upto.as_slice()),
             None => false,
         }
+    }
+
+    /// The entries alone. Takes no memory.
+    pub fn into_entries(self) -> BookEntries
+        ensures { result ≡ self.entries }
+    {
+        let BookState {
+            alloc: _,
+            entries,
+            topics,
+            ready,
+            room: _,
+        } = self;
+        drop(topics);
+        drop(ready);
+        BookEntries::from_vec(entries)
     }
 
     /// Makes room for one append of this entry.

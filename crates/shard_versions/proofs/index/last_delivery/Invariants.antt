@@ -6,7 +6,7 @@ use Rattle.shard_versions.proofs.index.last_delivery.Given as goal
 -- what is sought stands before `at`
 abbrev pub invariant-loop-at : goal.invariant-loop-at
 invariant-loop-at l =
-    IsWalk {X = Entry} (λ e. is_delivery l.src l.id e.kind) (λ e. sent_tag e.kind) (delivery_tag l.src l.id) l.entries l.at
+    IsWalk {X = Entry} (λ e. is_delivery l.src l.id e.kind) (λ e. sent_tag e.kind) (delivery_tag l.src l.id) l.log.entries l.at
 
 abbrev pub decreases-loop-at : goal.decreases-loop-at
 decreases-loop-at l = l.at

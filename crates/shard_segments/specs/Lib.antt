@@ -1,0 +1,4 @@
+pub mod Lists
+pub mod Held
+pub mod Chunks
+pub mod Scans
