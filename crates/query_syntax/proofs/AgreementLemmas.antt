@@ -2,12 +2,11 @@
 use Rattle.std.proofs.Common.{◌≡◌, ⊎_elim, ℕ, suc, ◌+◌, ◌-◌, ◌<◌, ◌≤◌, [], ◌∷◌, ◌++◌, ◌↔◌}
 use Rattle.std.proofs.Common.{List, length, take, drop, Option, Some, None, Ok, Err, refl}
 use Rattle.std.proofs.Common.{ap, ◌∙◌, subst, arith, append_assoc, add-one}
-use Rattle.std.specs.Prelude.{option_map}
 use Rattle.std.proofs.lemmas.Bool.{cases_lt}
 use Rattle.std.proofs.Math.Seq.{take-add}
 use Rattle.tuple_values.specs.Document.{ByteList}
-use Rattle.query_syntax.specs.Tree.{WhatTree, ClauseTree}
-use Rattle.query_syntax.specs.Grammar.{IsQuery, GoesOn, IsPlace, one_clause}
+use Rattle.query_syntax.specs.Tree.{ClauseTree}
+use Rattle.query_syntax.specs.Grammar.{IsQuery, GoesOn, IsPlace}
 use Rattle.query_syntax.specs.Machine.{Machine, start}
 use Rattle.query_syntax.specs.Steps.{step}
 use Rattle.query_syntax.specs.Reading.{run, asks, query_of, read_of, Ends, at_a_byte}
@@ -94,12 +93,10 @@ data Way (bytes : ByteList) : Type 0 where
 way : (bytes : ByteList) → Way bytes
 way bytes = go (run (Some start) bytes) refl
   where
-    asked : (m : Machine) → run (Some start) bytes ≡ Some m → (w : Option WhatTree)
+    asked : (m : Machine) → run (Some start) bytes ≡ Some m → (w : Option (List ClauseTree))
         → asks (Some m) ≡ w → Way bytes
     asked m ran None is = ends (length bytes) (at_the_end m refl ran is)
-    asked m ran (Some what) is =
-        says (one_clause what) (ap (λ o. option_map one_clause (asks o)) ran
-        ∙ ap (option_map one_clause) is)
+    asked m ran (Some clauses) is = says clauses (ap asks ran ∙ is)
 
     go : (o : Option Machine) → run (Some start) bytes ≡ o → Way bytes
     go None none =

@@ -7,6 +7,7 @@ use Rattle.std.proofs.lemmas.Bool.{or_cases, both_ways}
 use Rattle.std.proofs.lemmas.Bool.Decides.{nat_tests}
 use Rattle.query_syntax.specs.Letters.{is_blank, is_special, is_digit, is_word_byte}
 use Rattle.query_syntax.specs.Letters.{is_bound_byte}
+use Rattle.query_syntax.specs.Words.{goes_on_word}
 use Rattle.query_syntax.specs.Machine.{is_letter, takes}
 use Rattle.query_syntax.specs.declared.place.Side.{Side}
 use Rattle.query_syntax.specs.declared.place.Kind.{Kind}
@@ -25,7 +26,7 @@ unfolding is_special
 star_no_word = refl
 
 -- nor does a colon
-pub colon_no_word : takes Name 58 ≡ false
+pub colon_no_word : goes_on_word 58 ≡ false
 unfolding is_special
 colon_no_word = refl
 
@@ -38,6 +39,21 @@ star_none = refl
 pub quote_none : is_word_byte 34 ≡ false
 unfolding is_special
 quote_none = refl
+
+-- nor an opening parenthesis
+pub open_none : is_word_byte 40 ≡ false
+unfolding is_special
+open_none = refl
+
+-- nor a closing one
+pub close_none : is_word_byte 41 ≡ false
+unfolding is_special
+close_none = refl
+
+-- nor an exclamation mark
+pub bang_none : is_word_byte 33 ≡ false
+unfolding is_special
+bang_none = refl
 
 -- nor an opening bracket
 pub bracket_none : is_word_byte 91 ≡ false
@@ -56,7 +72,7 @@ word_no_blank b is = (or_parts (is_blank b) (is_special b) (not-true _ is)).0
 -- a backslash is no letter
 backslash : (kind : Kind) → is_letter kind 92 ≡ false
 unfolding is_special
-backslash Name = refl
+backslash (Name stage) = refl
 backslash Word = refl
 backslash Number = refl
 backslash Quote = refl

@@ -1,12 +1,14 @@
 -- What a list of clauses holds: its clauses are smaller, and tests go over it from the front.
 use Rattle.std.proofs.Common.{◌≡◌, ℕ, zero, suc, ◌+◌, ◌<◌, List, [], ◌∷◌, length, get_or, drop}
-use Rattle.std.proofs.Common.{Bool}
+use Rattle.std.proofs.Common.{Bool, ◌++◌, ap, sym, map}
+use Rattle.std.proofs.lemmas.List.{map-append}
 use Rattle.std.proofs.Common.{true, false, refl, arith, ◌∙◌, ◌||◌, ◌&&◌, add-one}
 use mathlib.Core.Bool.{beq}
 use Rattle.std.specs.Prelude.{slice_index_or}
 use Rattle.tuple_values.specs.Document.{Doc}
 use Rattle.query_syntax.specs.Tree.{what_depth, clauses_depth, ClauseTree, trees_of}
-use Rattle.query_syntax.specs.Views.{clause_tree, clause_trees}
+use Rattle.query_syntax.specs.Items.{role_beside, require_last}
+use Rattle.query_syntax.specs.Views.{what_tree, clause_tree, clause_trees}
 use Rattle.query_syntax.specs.Matching.{has_role, some_clause, same_role, agrees, what_matches}
 use Rattle.query_syntax.specs.declared.query.Role.{Role}
 use Rattle.query_syntax.specs.declared.query.Clause.{Clause}
@@ -87,3 +89,26 @@ pub agrees-missed : (role found value hit : Bool) → found ≡ value → beq fo
     → (role && agrees value hit) ≡ false
 agrees-missed true found value hit is same = agrees-found found value hit false is same
 agrees-missed false found value hit is same = refl
+
+-- ---- the last clause
+
+-- the last clause of some
+pub require_last-append : (cs : List ClauseTree) (c : ClauseTree)
+    → require_last (cs ++ c ∷ []) ≡ cs ++ record { role = role_beside c.role; what = c.what } ∷ []
+require_last-append [] c = refl
+require_last-append (d ∷ []) c = refl
+require_last-append (d ∷ e ∷ cs) c =
+    ap (λ (x : List ClauseTree). d ∷ x) (require_last-append (e ∷ cs) c)
+
+-- the clauses with the last one anew
+pub require_last-new : (old rest new : List Clause) (c : Clause) (role : Role)
+    → old ≡ rest ++ c ∷ [] → new ≡ rest ++ record { role = role; what = c.what } ∷ []
+    → role ≡ role_beside c.role → clause_trees new ≡ require_last (clause_trees old)
+require_last-new old rest new c role old_is new_is role_is =
+    let last : Clause = record { role = role; what = c.what } in
+    ap clause_trees new_is ∙ map-append clause_tree rest (last ∷ [])
+    ∙ ap (λ (r : Role). map clause_tree rest
+    ++ record { role = r; what = what_tree c.what } ∷ []) role_is
+    ∙ sym (ap (λ (l : List Clause). require_last (clause_trees l)) old_is
+    ∙ ap require_last (map-append clause_tree rest (c ∷ []))
+    ∙ require_last-append (map clause_tree rest) (clause_tree c))

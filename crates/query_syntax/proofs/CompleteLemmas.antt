@@ -1,440 +1,700 @@
--- What is laid out as a clause is read as what it says.
-use Rattle.std.proofs.Common.{◌≡◌, ℕ, List, [], ◌∷◌, ◌++◌, Bool, true, false, Option, Some}
-use Rattle.std.proofs.Common.{refl, ap, sym, ◌∙◌, append_assoc, subst}
-use Rattle.std.specs.Prelude.{◌==◌, codes, option_map}
-use Rattle.std.proofs.lemmas.Bool.{or_parts}
+-- What is laid out as a list is read as what it says.
+use Rattle.std.proofs.Common.{◌≡◌, ℕ, ◌+◌, ◌<◌, ◌≤◌, length, List, [], ◌∷◌, ◌++◌, Bool}
+use Rattle.std.proofs.Common.{true, false, Option, Some, None, refl, ap, sym, ◌∙◌, append_assoc}
+use Rattle.std.proofs.Common.{subst, arith, length-append, append-nil}
+use Rattle.std.specs.Prelude.{◌==◌, ◌||◌}
+use Rattle.std.proofs.lemmas.Bool.{or_parts, eqb-true, lt-ltb}
 use Rattle.tuple_values.specs.Document.{ByteList}
-use Rattle.query_syntax.specs.Letters.{is_blank, AreBlank, AreSomeBlanks, is_digit, is_word_byte}
+use Rattle.query_syntax.specs.Letters.{is_blank, AreBlank, is_word_byte, is_special}
 use Rattle.query_syntax.specs.Letters.{Letter, plain, escaped, AreLetters, letters_print}
-use Rattle.query_syntax.specs.Letters.{letters_text, has_escape, is_quoted_byte, is_bound_byte}
-use Rattle.query_syntax.specs.Letters.{is_just, is_operator}
-use Rattle.query_syntax.specs.Words.{IsWord, IsNumberWord, BeginsWord}
-use Rattle.query_syntax.specs.Ranges.{BoundLayout, bare, quoted}
-use Rattle.query_syntax.specs.Ranges.{bound_print, bound_says, IsBound, RangeLayout, range_print}
-use Rattle.query_syntax.specs.Ranges.{range_says, IsRange, end_print, to_print, closing}
+use Rattle.query_syntax.specs.Letters.{letters_text, is_operator}
+use Rattle.query_syntax.specs.Words.{IsWord, BeginsWord, quoted_print, goes_on_word, NoLetter}
 use Rattle.query_syntax.specs.Ranges.{opening}
-use Rattle.query_syntax.specs.Words.{quoted_print}
-use Rattle.query_syntax.specs.Grammar.{IsQuery, one_clause}
-use Rattle.query_syntax.specs.Layout.{TestLayout, word, prefix, number, quote, star, range}
-use Rattle.query_syntax.specs.Layout.{test_print, IsTest, test_says, Layout, star_colon_star, field}
-use Rattle.query_syntax.specs.Layout.{layout_print, layout_says, IsClause}
-use Rattle.query_syntax.specs.Ranges.{bare_says, IsBareBound}
-use Rattle.query_syntax.specs.Machine.{Machine, start, takes, push, begin, end_test}
+use Rattle.query_syntax.specs.Tests.{TestLayout, word, prefix, number, quote, star, range}
+use Rattle.query_syntax.specs.Tests.{test_print, IsTest, test_says, IsUnsigned, NoStar, TestEnds}
+use Rattle.query_syntax.specs.Joints.{Modifier, plus, minus, bang, not_word, modifier_print}
+use Rattle.query_syntax.specs.Joints.{modifier_role, ModifierEnds, plain_role, Conjunction}
+use Rattle.query_syntax.specs.Joints.{and_word, and_signs, or_word, or_signs, conjunction_print}
+use Rattle.query_syntax.specs.Joints.{is_and, JointLayout, apart, joined, joint_print}
+use Rattle.query_syntax.specs.Joints.{IsJoint}
+use Rattle.query_syntax.specs.Layout.{ClauseLayout, all_laid, field_laid, test_laid, group_laid}
+use Rattle.query_syntax.specs.Layout.{field_group_laid, ItemLayout, plain_laid, modified_laid}
+use Rattle.query_syntax.specs.Layout.{ListLayout, last_laid, more_laid, clause_print, item_print}
+use Rattle.query_syntax.specs.Layout.{list_print, item_role, clause_says, item_says, list_says}
+use Rattle.query_syntax.specs.Layout.{clause_levels, item_levels, list_levels, ClauseEnds}
+use Rattle.query_syntax.specs.Layout.{ItemEnds, IsClause, IsItem, AreItems}
+use Rattle.query_syntax.specs.Grammar.{IsQuery, level_limit}
+use Rattle.query_syntax.specs.Machine.{Machine, ready, start, begin}
+use Rattle.query_syntax.specs.Items.{end_name, end_test}
+use Rattle.query_syntax.specs.Items.{role_beside, require_last, outer_field}
 use Rattle.query_syntax.specs.Steps.{step}
-use Rattle.query_syntax.specs.Machine.{end_bound, end_range, closed_step}
-use Rattle.query_syntax.specs.Machine.{end_name}
+use Rattle.query_syntax.specs.ItemSteps.{test_step, item_step, begin_item_step}
 use Rattle.query_syntax.specs.Reading.{run, asks, query_of}
-use Rattle.query_syntax.specs.Tree.{everything, on_field, ClauseTree}
+use Rattle.query_syntax.specs.Tree.{everything, on_field, nested, ClauseTree, trees_of}
+use Rattle.query_syntax.specs.declared.query.Role.{Role}
+use Rattle.query_syntax.specs.declared.query.Role.TheVariants.{Prohibited, Optional}
+use Rattle.query_syntax.specs.declared.query.Test.{Test}
 use Rattle.query_syntax.specs.declared.query.Test.TheVariants as test
-use Rattle.query_syntax.specs.declared.place.Side.{Side}
-use Rattle.query_syntax.specs.declared.place.Side.TheVariants.{Low, High}
-use Rattle.query_syntax.specs.declared.place.Kind.TheVariants.{Name, Word, Number, Quote, Bare}
-use Rattle.query_syntax.specs.declared.place.Kind.TheVariants.{Quoted}
-use Rattle.query_syntax.specs.declared.place.Place.{Place}
-use Rattle.query_syntax.specs.declared.place.Place.TheVariants.{Start, All, Letters}
-use Rattle.query_syntax.specs.declared.place.Place.TheVariants.{Escape, Tested, Minus}
-use Rattle.query_syntax.specs.declared.place.Place.TheVariants.{MinusEscape, Before, Closed, Gap}
-use Rattle.query_syntax.specs.declared.place.Place.TheVariants.{To, Behind}
+use Rattle.query_syntax.specs.declared.open_lists.Outside.{Outside}
+use Rattle.query_syntax.specs.declared.open_lists.Outside.TheVariants.{Same, Other}
+use Rattle.query_syntax.specs.declared.open_lists.OpenList.{OpenList}
+use Rattle.query_syntax.specs.declared.place.Stage.{Stage}
+use Rattle.query_syntax.specs.declared.place.Stage.TheVariants.{First, Behind, Joined, Modified}
+use Rattle.query_syntax.specs.declared.place.Kind.TheVariants.{Name}
+use Rattle.query_syntax.specs.declared.place.Place.TheVariants.{Item, Star, Letters, Tested}
 use Rattle.query_syntax.proofs.ClassLemmas.{other, star_no_word, colon_no_word, star_none}
+use Rattle.query_syntax.proofs.ClauseLemmas.{require_last-append}
+use Rattle.query_syntax.proofs.ClassLemmas.{open_none, close_none, bang_none}
 use Rattle.query_syntax.proofs.ClassLemmas.{quote_none, bracket_none, brace_none, word_no_blank}
-use Rattle.query_syntax.proofs.ClassLemmas.{blank_no_word, blank_no_bare, digit_no_backslash}
-use Rattle.query_syntax.proofs.ClassLemmas.{bound_no_blank}
 use Rattle.query_syntax.proofs.LetterLemmas.{at, fresh, after_letters, first_byte, run-blanks}
-use Rattle.query_syntax.proofs.LetterLemmas.{run-letters, run-begun, letter-plain}
-use Rattle.query_syntax.proofs.LetterLemmas.{letter-escaped}
+use Rattle.query_syntax.proofs.LetterLemmas.{run-begun}
+use Rattle.query_syntax.proofs.SpanLemmas.{Asks, nowhere}
+use Rattle.query_syntax.proofs.LaidTestLemmas.{ends_alike, asks-test}
+use Rattle.query_syntax.proofs.EndsLemmas.{Closes, no_letter_more, no_letter_some, blanks_letter}
+use Rattle.query_syntax.proofs.EndsLemmas.{blanks_star, no_star_more, closes_letter, closes_star}
+use Rattle.query_syntax.proofs.EndsLemmas.{item_ends_more}
+use Rattle.query_syntax.proofs.EndsLemmas.{item_ends_by, clause_some}
 
--- ---- the end
+-- the bytes lead from one machine to another and what is left, whatever the end
+abbrev pub Leads : Machine → ByteList → Machine → ByteList → Type 0
+Leads m bytes n more =
+    (clauses : List ClauseTree) → Asks (Some n) more clauses → Asks (Some m) bytes clauses
 
--- what is asked for stays so over blanks
-pub asks-behind : (m : Machine) (gap : ByteList) → AreBlank gap
-    → asks (run (Some (at Behind m)) gap) ≡ Some (on_field m.name m.test)
-asks-behind m [] blank = refl
-asks-behind m (b ∷ gap) blank =
-    ap (λ o. asks (run o gap)) (behind_blank m b blank.0) ∙ asks-behind m gap blank.1
-  where
-    behind_blank : (m : Machine) (b : ℕ) → is_blank b ≡ true
-        → step (at Behind m) b (b ∷ []) ≡ Some (at Behind m)
-    behind_blank m b is = rw is refl
+-- by a run
+leads_by : (m n : Machine) (bytes more : ByteList) → run (Some m) bytes ≡ run (Some n) more
+    → Leads m bytes n more
+leads_by m n bytes more is = λ clauses h. ap asks is ∙ h
 
--- the same behind `*:*`
-pub asks-all : (m : Machine) (gap : ByteList) → AreBlank gap
-    → asks (run (Some (at All m)) gap) ≡ Some everything
-asks-all m [] blank = refl
-asks-all m (b ∷ gap) blank =
-    ap (λ o. asks (run o gap)) (all_blank m b blank.0) ∙ asks-all m gap blank.1
-  where
-    all_blank : (m : Machine) (b : ℕ) → is_blank b ≡ true
-        → step (at All m) b (b ∷ []) ≡ Some (at All m)
-    all_blank m b is = rw is refl
+-- by what is asked for
+leads_alike : (m n : Machine) (bytes more : ByteList)
+    → asks (run (Some m) bytes) ≡ asks (run (Some n) more) → Leads m bytes n more
+leads_alike m n bytes more is = λ clauses h. is ∙ h
 
--- ---- bounds and ranges
+-- ---- items
 
--- bytes that don't go on with a bound: a first one, and no letter
-abbrev Stops : Side → ByteList → Type 0
-Stops side [] = ⊥
-Stops side (b ∷ bytes) = takes (Bare side) b ≡ false
+-- blanks before an item and behind one
+pub item_blank : (stage : Stage) (role : Role) (field : Option ByteList)
+    (cs : List ClauseTree) (outer : List OpenList) (b : ℕ) → is_blank b ≡ true
+    → step (ready stage role field cs outer) b (b ∷ []) ≡ Some (ready stage role field cs outer)
+unfolding item_step
+item_blank stage role field cs outer b is = rw is refl
 
--- a bound without quotes begins behind its bracket or `TO`
-bare_begins : (side : Side) (m : Machine) (letter : Letter) (letters : List Letter)
-    → AreLetters is_bound_byte (letter ∷ letters)
-    → step (at (Before side) m) (first_byte letter) (first_byte letter ∷ [])
-    ≡ begin (Bare side) m (first_byte letter) (first_byte letter ∷ [])
-bare_begins side m (plain b) letters are =
-    rw (bound_no_blank b are.0, other is_bound_byte 34 b refl are.0) refl
-bare_begins side m (escaped b) letters are = refl
-
--- a byte behind it
-bare_ends : (side : Side) (m : Machine) (b : ℕ) → takes (Bare side) b ≡ false
-    → is_just (codes "TO") m.escapes m.text ≡ false
-    → step (at (Letters (Bare side)) m) b (b ∷ [])
-    ≡ closed_step side
-    (end_bound side (bare_says m.escapes m.text) (at (Letters (Bare side)) m)) b
-bare_ends side m b stops is = rw (stops, is) refl
-
--- the letters of a bound are forgotten
-pub end_bound_over : (side : Side) (bound : Option ByteList) (m : Machine) (place : Place)
-    (text : ByteList) (escapes : Bool)
-    → end_bound side bound (record m { place = place; text = text; escapes = escapes })
-    ≡ end_bound side bound m
-end_bound_over Low bound m place text escapes = refl
-end_bound_over High bound m place text escapes = refl
-
--- where a bound is read, it is closed
-pub closed_at : (side : Side) (bound : Option ByteList) (m : Machine) (b : ℕ)
-    → closed_step side (end_bound side bound m) b ≡ step (end_bound side bound m) b (b ∷ [])
-closed_at Low bound m b = refl
-closed_at High bound m b = refl
-
--- a bound without quotes is read as what it says
-run-bare : (side : Side) (m : Machine) (letters : List Letter) (more : ByteList)
-    → IsBareBound letters → Stops side more
-    → run (Some (at (Before side) m)) (letters_print letters ++ more)
-    ≡ run (Some (end_bound side (bound_says (bare letters)) m)) more
-run-bare side m [] more allowed stops = absurd (allowed.not_empty refl)
-run-bare side m (letter ∷ letters) [] allowed stops = absurd stops
-run-bare side m (letter ∷ letters) (b ∷ more) allowed stops =
-    run-begun (Bare side) (at (Before side) m) letter letters (b ∷ more)
-    (bare_begins side m letter letters allowed.are_letters) allowed.are_letters
-    ∙ ap (λ o. run o more)
-    (bare_ends side (after_letters (Bare side) (fresh m) (letter ∷ letters)) b stops allowed.not_to
-    ∙ ap (λ x. closed_step side x b)
-    (end_bound_over side (bound_says (bare (letter ∷ letters))) m (Letters (Bare side))
-    (letters_text (letter ∷ letters)) (has_escape (letter ∷ letters)))
-    ∙ closed_at side (bound_says (bare (letter ∷ letters))) m b)
-
--- so is a quoted one
-run-quoted : (side : Side) (m : Machine) (letters : List Letter) (more : ByteList)
-    → AreLetters is_quoted_byte letters
-    → run (Some (at (Before side) m)) (bound_print (quoted letters) ++ more)
-    ≡ run (Some (end_bound side (bound_says (quoted letters)) m)) more
-run-quoted side m letters more are =
-    ap (λ t. run (Some (at (Letters (Quoted side)) (fresh m))) t)
-    (append_assoc (letters_print letters) (34 ∷ []) more)
-    ∙ run-letters (Quoted side) (fresh m) letters (34 ∷ more) are
-    ∙ ap (λ x. run (Some x) more)
-    (end_bound_over side (bound_says (quoted letters)) m (Letters (Quoted side))
-    (letters_text letters) (has_escape letters))
-
--- a bound behind blanks is read as what it says
-pub run-bound : (side : Side) (m : Machine) (bound : BoundLayout) (more : ByteList)
-    → IsBound bound → Stops side more
-    → run (Some (at (Before side) m)) (bound_print bound ++ more)
-    ≡ run (Some (end_bound side (bound_says bound) m)) more
-run-bound side m (bare letters) more allowed stops = run-bare side m letters more allowed stops
-run-bound side m (quoted letters) more allowed stops = run-quoted side m letters more allowed
-
--- blanks before a bound
-before_blank : (side : Side) (m : Machine) (b : ℕ) → is_blank b ≡ true
-    → step (at (Before side) m) b (b ∷ []) ≡ Some (at (Before side) m)
-before_blank side m b is = rw is refl
-
--- blanks and a bracket end a bound
-closing_stops : (gap : ByteList) (high_in : Bool) (more : ByteList) → AreBlank gap
-    → Stops High (gap ++ closing high_in ∷ more)
-closing_stops [] true more blank = refl
-closing_stops [] false more blank = refl
-closing_stops (b ∷ gap) high_in more blank = blank_no_bare High b blank.0
-
--- so do blanks
-blanks_stop : (gap : ByteList) (more : ByteList) → AreSomeBlanks gap → Stops Low (gap ++ more)
-blanks_stop [] more blank = absurd blank
-blanks_stop (b ∷ gap) more blank = blank_no_bare Low b blank.0
-
--- a bracket ends a range
-run-closing : (m : Machine) (high_in : Bool) (more : ByteList)
-    → run (Some (at (Closed High) m)) (closing high_in ∷ more)
-    ≡ run (Some (end_range high_in m)) more
-run-closing m true more = refl
-run-closing m false more = refl
-
--- blanks behind an upper bound
-closed_blank : (m : Machine) (b : ℕ) → is_blank b ≡ true
-    → step (at (Closed High) m) b (b ∷ []) ≡ Some (at (Closed High) m)
-closed_blank m b is = rw is refl
-
--- blanks behind a lower bound
-gap_blank : (m : Machine) (b : ℕ) → is_blank b ≡ true
-    → step (at Gap m) b (b ∷ []) ≡ Some (at Gap m)
-gap_blank m b is = rw is refl
-
--- `TO` between blanks leads on to the upper bound
-run-to : (m : Machine) (gap behind more : ByteList) → AreSomeBlanks gap → AreSomeBlanks behind
-    → run (Some (at (Closed Low) m)) (gap ++ 84 ∷ 79 ∷ (behind ++ more))
-    ≡ run (Some (at (Before High) m)) more
-run-to m [] behind more blank blank_behind = absurd blank
-run-to m (b ∷ gap) [] more blank blank_behind = absurd blank_behind
-run-to m (b ∷ gap) (d ∷ behind) more blank blank_behind =
-    ap (λ o. run o (gap ++ 84 ∷ 79 ∷ (d ∷ (behind ++ more)))) (first_blank m b blank.0)
-    ∙ run-blanks (at Gap m) gap (84 ∷ 79 ∷ (d ∷ (behind ++ more))) (gap_blank m) blank.1
-    ∙ ap (λ o. run o (behind ++ more)) (to_blank m d blank_behind.0)
-    ∙ run-blanks (at (Before High) m) behind more (before_blank High m) blank_behind.1
-  where
-    first_blank : (m : Machine) (b : ℕ) → is_blank b ≡ true
-        → step (at (Closed Low) m) b (b ∷ []) ≡ Some (at Gap m)
-    first_blank m b is = rw is refl
-
-    to_blank : (m : Machine) (b : ℕ) → is_blank b ≡ true
-        → step (at To m) b (b ∷ []) ≡ Some (at (Before High) m)
-    to_blank m b is = rw is refl
-
--- what is behind the upper bound ends the range
-run-end : (m : Machine) (r : RangeLayout) (more : ByteList) → AreBlank r.behind_high
-    → run (Some (at (Closed High) m)) (end_print r ++ more)
-    ≡ run (Some (end_range r.high_in m)) more
-run-end m r more blank =
-    ap (run (Some (at (Closed High) m))) (append_assoc r.behind_high (closing r.high_in ∷ []) more)
-    ∙ run-blanks (at (Closed High) m) r.behind_high (closing r.high_in ∷ more) (closed_blank m)
+-- they are passed over
+run-gap : (stage : Stage) (role : Role) (field : Option ByteList) (cs : List ClauseTree)
+    (outer : List OpenList) (gap more : ByteList) → AreBlank gap
+    → run (Some (ready stage role field cs outer)) (gap ++ more)
+    ≡ run (Some (ready stage role field cs outer)) more
+run-gap stage role field cs outer gap more blank =
+    run-blanks (ready stage role field cs outer) gap more (item_blank stage role field cs outer)
     blank
-    ∙ run-closing m r.high_in more
 
--- what is behind the lower bound, and more
-pub to_print-append : (r : RangeLayout) (more : ByteList)
-    → to_print r ++ more ≡ r.behind_low ++ 84 ∷ 79 ∷
-    (r.before_high ++ (bound_print r.high ++ (end_print r ++ more)))
-to_print-append r more = simp append_assoc
-
--- so does what is behind the lower one
-run-upper : (m : Machine) (r : RangeLayout) (more : ByteList) → IsRange r
-    → run (Some (at (Closed Low) m)) (to_print r ++ more)
-    ≡ run (Some (end_range r.high_in (end_bound High (bound_says r.high) m))) more
-run-upper m r more allowed =
-    ap (run (Some (at (Closed Low) m))) (to_print-append r more)
-    ∙ run-to m r.behind_low r.before_high (bound_print r.high ++ (end_print r ++ more))
-    allowed.behind_low allowed.before_high
-    ∙ run-bound High m r.high (end_print r ++ more) allowed.high
-    (subst (Stops High) (sym (append_assoc r.behind_high (closing r.high_in ∷ []) more))
-    (closing_stops r.behind_high r.high_in more allowed.behind_high))
-    ∙ run-end (end_bound High (bound_says r.high) m) r more allowed.behind_high
-
--- a bracket begins a range
-run-opening : (m : Machine) (low_in : Bool) (more : ByteList)
-    → run (Some (at Tested m)) (opening low_in ∷ more)
-    ≡ run (Some (at (Before Low) (record m { low_in = low_in }))) more
-run-opening m true more = refl
-run-opening m false more = refl
-
--- a range is read as what it says
-asks-range : (m : Machine) (r : RangeLayout) (behind : ByteList) → IsRange r → AreBlank behind
-    → asks (run (Some (at Tested m)) (range_print r ++ behind))
-    ≡ Some (on_field m.name (range_says r))
-asks-range m r behind allowed blank =
-    let opened = record m { low_in = r.low_in } in
-    ap asks (run-opening m r.low_in ((r.before_low ++ (bound_print r.low ++ to_print r)) ++ behind)
-    ∙ ap (run (Some (at (Before Low) opened)))
-    (append_assoc r.before_low (bound_print r.low ++ to_print r) behind
-    ∙ ap (λ t. r.before_low ++ t) (append_assoc (bound_print r.low) (to_print r) behind))
-    ∙ run-blanks (at (Before Low) opened) r.before_low
-    (bound_print r.low ++ (to_print r ++ behind)) (before_blank Low opened) allowed.before_low
-    ∙ run-bound Low opened r.low (to_print r ++ behind) allowed.low
-    (subst (Stops Low) (sym (to_print-append r behind))
-    (blanks_stop r.behind_low
-    (84 ∷ 79 ∷ (r.before_high ++ (bound_print r.high ++ (end_print r ++ behind))))
-    allowed.behind_low))
-    ∙ run-upper (end_bound Low (bound_says r.low) opened) r behind allowed)
-    ∙ asks-behind
-    (end_range r.high_in (end_bound High (bound_says r.high)
-    (end_bound Low (bound_says r.low) opened))) behind blank
-
--- ---- tests
-
--- a word begins behind the colon
-word_begins : (m : Machine) (letter : Letter) (letters : List Letter)
+-- letters of a word begin where an item may
+name_begins : (stage : Stage) (m : Machine) (letter : Letter) (letters : List Letter)
     → AreLetters is_word_byte (letter ∷ letters) → BeginsWord (letter ∷ letters)
-    → step (at Tested m) (first_byte letter) (first_byte letter ∷ [])
-    ≡ begin Word (at Tested m) (first_byte letter) (first_byte letter ∷ [])
-word_begins m (plain b) letters are begins =
+    → step (at (Item stage) m) (first_byte letter) (first_byte letter ∷ [])
+    ≡ begin (Name stage) (at (Item stage) m) (first_byte letter) (first_byte letter ∷ [])
+unfolding item_step begin_item_step
+name_begins stage m (plain b) letters are begins =
     let signs = or_parts (b == 43) (b == 45) begins in
     rw (
       word_no_blank b are.0,
+      other is_word_byte 40 b open_none are.0,
+      other is_word_byte 41 b close_none are.0,
+      other is_word_byte 33 b bang_none are.0,
+      signs.1,
+      signs.0,
       other is_word_byte 42 b star_none are.0,
       other is_word_byte 34 b quote_none are.0,
       other is_word_byte 91 b bracket_none are.0,
       other is_word_byte 123 b brace_none are.0,
-      signs.1,
-      signs.0,
     ) refl
-word_begins m (escaped b) letters are begins = refl
+name_begins stage m (escaped b) letters are begins = refl
 
--- a word is read
-run-word : (m : Machine) (letters : List Letter) (more : ByteList) → IsWord letters
-    → run (Some (at Tested m)) (letters_print letters ++ more)
-    ≡ run (Some (after_letters Word (fresh m) letters)) more
-run-word m [] more allowed = absurd allowed.begins
-run-word m (letter ∷ letters) more allowed =
-    run-begun Word (at Tested m) letter letters more
-    (word_begins m letter letters allowed.are_letters allowed.begins) allowed.are_letters
+-- they are read
+run-letters-begun : (stage : Stage) (m : Machine) (letters : List Letter) (more : ByteList)
+    → IsWord letters
+    → run (Some (at (Item stage) m)) (letters_print letters ++ more)
+    ≡ run (Some (after_letters (Name stage) (fresh m) letters)) more
+run-letters-begun stage m [] more allowed = absurd allowed.begins
+run-letters-begun stage m (letter ∷ letters) more allowed =
+    run-begun (Name stage) (at (Item stage) m) letter letters more
+    (name_begins stage m letter letters allowed.are_letters allowed.begins) allowed.are_letters
 
--- a blank behind a word
-word_blank : (m : Machine) (b : ℕ) → is_operator m.escapes m.text ≡ false → is_blank b ≡ true
-    → step (at (Letters Word) m) b (b ∷ []) ≡ Some (end_test (test.Word m.text) m)
-word_blank m b whole blank =
-    rw (blank_no_word b blank, whole, other is_blank 42 b refl blank, blank) refl
+-- a colon behind a name
+name_colon : (stage : Stage) (m : Machine) → is_operator m.escapes m.text ≡ false
+    → step (at (Letters (Name stage)) m) 58 (58 ∷ []) ≡ Some (end_name m)
+name_colon stage m whole = rw (colon_no_word, whole) refl
 
--- a word with blanks behind it asks for the word
-asks-word : (m : Machine) (gap : ByteList) → is_operator m.escapes m.text ≡ false → AreBlank gap
-    → asks (run (Some (at (Letters Word) m)) gap) ≡ Some (on_field m.name (test.Word m.text))
-asks-word m [] whole blank = rw whole refl
-asks-word m (b ∷ gap) whole blank =
-    ap (λ o. asks (run o gap)) (word_blank m b whole blank.0)
-    ∙ asks-behind (end_test (test.Word m.text) m) gap blank.1
-
--- a star behind a word
-word_star : (m : Machine) → is_operator m.escapes m.text ≡ false
-    → step (at (Letters Word) m) 42 (42 ∷ []) ≡ Some (end_test (test.Prefix m.text) m)
-word_star m whole = rw (star_no_word, whole) refl
-
--- a blank behind a number
-number_blank : (m : Machine) (b : ℕ) → is_blank b ≡ true
-    → step (at (Letters Number) m) b (b ∷ []) ≡ Some (end_test (test.Word m.text) m)
-number_blank m b blank = rw (blank_no_word b blank, blank) refl
-
--- a number with blanks behind it asks for its text
-asks-number : (m : Machine) (gap : ByteList) → AreBlank gap
-    → asks (run (Some (at (Letters Number) m)) gap) ≡ Some (on_field m.name (test.Word m.text))
-asks-number m [] blank = refl
-asks-number m (b ∷ gap) blank =
-    ap (λ o. asks (run o gap)) (number_blank m b blank.0)
-    ∙ asks-behind (end_test (test.Word m.text) m) gap blank.1
-
--- a digit behind a minus
-minus_digit : (m : Machine) (b : ℕ) → is_digit b ≡ true
-    → step (at Minus m) b (b ∷ []) ≡ Some (push Number m (b ∷ []))
-minus_digit m b is = rw (digit_no_backslash b is, is) refl
-
--- an escaped one
-minus_escaped : (m : Machine) (b : ℕ) → is_digit b ≡ true
-    → step (at MinusEscape m) b (b ∷ []) ≡ Some (push Number m (b ∷ []))
-minus_escaped m b is = rw is refl
-
--- a number is read
-run-number : (m : Machine) (letters : List Letter) (more : ByteList) → IsNumberWord letters
-    → run (Some (at Minus m)) (letters_print letters ++ more)
-    ≡ run (Some (after_letters Number m letters)) more
-run-number m [] more allowed = absurd allowed.begins
-run-number m (plain b ∷ letters) more allowed =
-    ap (λ o. run o (letters_print letters ++ more))
-    (minus_digit m b allowed.begins ∙ sym (letter-plain Number m b allowed.are_letters.0))
-    ∙ run-letters Number m (plain b ∷ letters) more allowed.are_letters
-run-number m (escaped b ∷ letters) more allowed =
-    ap (λ o. run o (letters_print letters ++ more))
-    (minus_escaped (record m { escapes = true }) b allowed.begins
-    ∙ sym (letter-escaped Number (at (Escape Number) m) b allowed.are_letters.0))
-    ∙ run-letters Number m (escaped b ∷ letters) more allowed.are_letters
-
--- a quoted text is read
-run-quote : (m : Machine) (letters : List Letter) (more : ByteList)
-    → AreLetters is_quoted_byte letters
-    → run (Some (at Tested m)) (quoted_print letters ++ more)
-    ≡ run (Some (end_test (test.Word (letters_text letters)) m)) more
-run-quote m letters more are =
-    ap (λ t. run (Some (at (Letters Quote) (fresh m))) t)
-    (append_assoc (letters_print letters) (34 ∷ []) more)
-    ∙ run-letters Quote (fresh m) letters (34 ∷ more) are
-
--- a test with blanks behind it is asked for
-asks-test : (m : Machine) (t : TestLayout) (behind : ByteList) → IsTest t → AreBlank behind
-    → asks (run (Some (at Tested m)) (test_print t ++ behind))
-    ≡ Some (on_field m.name (test_says t))
-asks-test m (word letters) behind allowed blank =
-    ap asks (run-word m letters behind allowed)
-    ∙ asks-word (after_letters Word (fresh m) letters) behind allowed.no_operator blank
-asks-test m (prefix letters) behind allowed blank =
-    ap (λ t. asks (run (Some (at Tested m)) t))
-    (append_assoc (letters_print letters) (42 ∷ []) behind)
-    ∙ ap asks (run-word m letters (42 ∷ behind) allowed
-    ∙ ap (λ o. run o behind)
-    (word_star (after_letters Word (fresh m) letters) allowed.no_operator))
-    ∙ asks-behind
-    (end_test (test.Prefix (letters_text letters)) (after_letters Word (fresh m) letters))
-    behind blank
-asks-test m (number letters) behind allowed blank =
-    let minus = record m { text = 45 ∷ []; escapes = false } in
-    ap asks (run-number minus letters behind allowed)
-    ∙ asks-number (after_letters Number minus letters) behind blank
-asks-test m (quote letters) behind allowed blank =
-    ap asks (run-quote m letters behind allowed)
-    ∙ asks-behind (end_test (test.Word (letters_text letters)) m) behind blank
-asks-test m star behind allowed blank = asks-behind (end_test test.Present m) behind blank
-asks-test m (range r) behind allowed blank = asks-range m r behind allowed blank
-
--- ---- clauses
+-- a name with its colon is read
+run-name : (stage : Stage) (m : Machine) (letters : List Letter) (more : ByteList)
+    → IsWord letters
+    → run (Some (at (Item stage) m)) (letters_print letters ++ 58 ∷ more)
+    ≡ run (Some (end_name (after_letters (Name stage) (fresh m) letters))) more
+run-name stage m letters more allowed =
+    run-letters-begun stage m letters (58 ∷ more) allowed
+    ∙ ap (λ o. run o more)
+    (name_colon stage (after_letters (Name stage) (fresh m) letters) allowed.no_operator)
 
 -- blanks behind the colon
 tested_blank : (m : Machine) (b : ℕ) → is_blank b ≡ true
     → step (at Tested m) b (b ∷ []) ≡ Some (at Tested m)
+unfolding test_step
 tested_blank m b is = rw is refl
 
--- a name begins where a text does
-name_begins : (m : Machine) (letter : Letter) (letters : List Letter)
-    → AreLetters is_word_byte (letter ∷ letters) → BeginsWord (letter ∷ letters)
-    → step (at Start m) (first_byte letter) (first_byte letter ∷ [])
-    ≡ begin Name (at Start m) (first_byte letter) (first_byte letter ∷ [])
-name_begins m (plain b) letters are begins =
-    rw (word_no_blank b are.0, other is_word_byte 42 b star_none are.0, begins) refl
-name_begins m (escaped b) letters are begins = refl
+-- ---- tests without a field
 
--- a colon behind a name
-name_colon : (m : Machine) → is_operator m.escapes m.text ≡ false
-    → step (at (Letters Name) m) 58 (58 ∷ []) ≡ Some (end_name m)
-name_colon m whole = rw (colon_no_word, whole) refl
+-- a colon stands behind no item
+no_colon : (role : Role) (field : Option ByteList) (cs : List ClauseTree) (outer : List OpenList)
+    → step (ready Behind role field cs outer) 58 (58 ∷ []) ≡ None
+unfolding item_step begin_item_step is_special
+no_colon role field cs outer = refl
 
--- a name with its colon is read
-run-name : (m : Machine) (letters : List Letter) (more : ByteList) → IsWord letters
-    → run (Some (at Start m)) (letters_print letters ++ 58 ∷ more)
-    ≡ run (Some (end_name (after_letters Name (fresh m) letters))) more
-run-name m [] more allowed = absurd allowed.begins
-run-name m (letter ∷ letters) more allowed =
-    run-begun Name (at Start m) letter letters (58 ∷ more)
-    (name_begins m letter letters allowed.are_letters allowed.begins) allowed.are_letters
-    ∙ ap (λ o. run o more)
-    (name_colon (after_letters Name (fresh m) (letter ∷ letters)) allowed.no_operator)
+-- where each other byte leads on alike, all bytes do
+ends_colon : (m : Machine) (role : Role) (field : Option ByteList) (cs : List ClauseTree)
+    (outer : List OpenList) (b : ℕ) (more : ByteList)
+    → ((b == 58) ≡ false
+    → step m b (b ∷ []) ≡ step (ready Behind role field cs outer) b (b ∷ []))
+    → Leads m (b ∷ more) (ready Behind role field cs outer) (b ∷ more)
+ends_colon m role field cs outer b more same = λ clauses h. by clauses h (b == 58) refl
+  where
+    by : (clauses : List ClauseTree)
+        → Asks (Some (ready Behind role field cs outer)) (b ∷ more) clauses → (t : Bool)
+        → (b == 58) ≡ t → Asks (Some m) (b ∷ more) clauses
+    by clauses h true is =
+        let colon = subst
+        (λ (x : ℕ). Asks (step (ready Behind role field cs outer) x (x ∷ [])) more clauses)
+        (eqb-true b 58 is) h in
+        nowhere more clauses
+        (subst (λ o. Asks o more clauses) (no_colon role field cs outer) colon)
+    by clauses h false is = ap (λ o. asks (run o more)) (same is) ∙ h
 
--- a clause with blanks behind it is asked for
-asks-clause : (m : Machine) (layout : Layout) (behind : ByteList) → IsClause layout
-    → AreBlank behind
-    → asks (run (Some (at Start m)) (layout_print layout ++ behind)) ≡ Some (layout_says layout)
-asks-clause m star_colon_star behind allowed blank = asks-all m behind blank
-asks-clause m (field f) behind allowed blank =
-    let named = end_name (after_letters Name (fresh m) f.name) in
-    ap asks (ap (run (Some (at Start m)))
-    (append_assoc (letters_print f.name) (58 ∷ (f.gap ++ test_print f.test)) behind
-    ∙ ap (λ t. letters_print f.name ++ 58 ∷ t) (append_assoc f.gap (test_print f.test) behind))
-    ∙ run-name m f.name (f.gap ++ (test_print f.test ++ behind)) allowed.name
-    ∙ run-blanks named f.gap (test_print f.test ++ behind) (tested_blank named) allowed.gap)
-    ∙ asks-test named f.test behind allowed.test blank
+-- what is read behind a test without a field
+abbrev bare_read : Role → ByteList → List ClauseTree → List OpenList → Test → Machine
+bare_read role field cs outer t =
+    ready Behind Optional (Some field) (cs ++ record { role = role; what = on_field field t } ∷ [])
+    outer
 
--- blanks before a clause
-start_blank : (m : Machine) (b : ℕ) → is_blank b ≡ true
-    → step (at Start m) b (b ∷ []) ≡ Some (at Start m)
-start_blank m b is = rw is refl
+-- a word
+word_ends : (stage : Stage) (role : Role) (field : ByteList) (cs : List ClauseTree)
+    (outer : List OpenList) (letters : List Letter) (more : ByteList) → IsWord letters
+    → NoLetter more → NoStar more
+    → Leads (after_letters (Name stage) (ready stage role (Some field) cs outer) letters) more
+    (bare_read role field cs outer (test.Word (letters_text letters))) more
+word_ends stage role field cs outer letters [] allowed l s =
+    leads_alike (after_letters (Name stage) (ready stage role (Some field) cs outer) letters)
+    (bare_read role field cs outer (test.Word (letters_text letters))) [] []
+    (rw allowed.no_operator refl)
+word_ends stage role field cs outer letters (b ∷ more) allowed l s =
+    ends_colon (after_letters (Name stage) (ready stage role (Some field) cs outer) letters)
+    Optional (Some field)
+    (cs ++ record { role = role; what = on_field field (test.Word (letters_text letters)) } ∷ [])
+    outer b more (λ no. rw (l, allowed.no_operator, no, s) refl)
+
+-- a star behind a word
+word_star : (stage : Stage) (role : Role) (field : ByteList) (cs : List ClauseTree)
+    (outer : List OpenList) (letters : List Letter) → IsWord letters
+    → step (after_letters (Name stage) (ready stage role (Some field) cs outer) letters) 42
+    (42 ∷ []) ≡ Some (bare_read role field cs outer (test.Prefix (letters_text letters)))
+word_star stage role field cs outer letters allowed =
+    rw (star_no_word, allowed.no_operator) refl
+
+-- a star alone
+star_ends : (role : Role) (field : ByteList) (cs : List ClauseTree) (outer : List OpenList)
+    (more : ByteList)
+    → Leads (at Star (ready First role (Some field) cs outer)) more
+    (bare_read role field cs outer test.Present) more
+star_ends role field cs outer [] =
+    leads_alike (at Star (ready First role (Some field) cs outer))
+    (bare_read role field cs outer test.Present) [] [] refl
+star_ends role field cs outer (b ∷ more) =
+    ends_colon (at Star (ready First role (Some field) cs outer)) Optional (Some field)
+    (cs ++ record { role = role; what = on_field field test.Present } ∷ []) outer b more
+    (λ no. rw no refl)
+
+-- a star is read
+run-star : (stage : Stage) (role : Role) (field : Option ByteList) (cs : List ClauseTree)
+    (outer : List OpenList) (more : ByteList)
+    → run (Some (ready stage role field cs outer)) (42 ∷ more)
+    ≡ run (Some (at Star (ready First role field cs outer))) more
+unfolding item_step begin_item_step
+run-star stage role field cs outer more = refl
+
+-- a quote begins a test as behind a field
+run-quote : (stage : Stage) (role : Role) (field : ByteList) (cs : List ClauseTree)
+    (outer : List OpenList) (more : ByteList)
+    → run (Some (ready stage role (Some field) cs outer)) (34 ∷ more)
+    ≡ run (Some (at Tested (record (ready stage role (Some field) cs outer) { name = field })))
+    (34 ∷ more)
+unfolding item_step begin_item_step test_step
+run-quote stage role field cs outer more = refl
+
+-- so does a bracket
+run-bracket : (stage : Stage) (role : Role) (field : ByteList) (cs : List ClauseTree)
+    (outer : List OpenList) (low_in : Bool) (more : ByteList)
+    → run (Some (ready stage role (Some field) cs outer)) (opening low_in ∷ more)
+    ≡ run (Some (at Tested (record (ready stage role (Some field) cs outer) { name = field })))
+    (opening low_in ∷ more)
+unfolding item_step begin_item_step test_step
+run-bracket stage role field cs outer true more = refl
+run-bracket stage role field cs outer false more = refl
+
+-- a test without a field is read as what it says
+bare_test : (stage : Stage) (role : Role) (field : ByteList) (cs : List ClauseTree)
+    (outer : List OpenList) (t : TestLayout) (more : ByteList) → IsTest t → IsUnsigned t
+    → TestEnds t more
+    → Leads (ready stage role (Some field) cs outer) (test_print t ++ more)
+    (bare_read role field cs outer (test_says t)) more
+bare_test stage role field cs outer (word letters) more allowed unsigned ends =
+    λ clauses h.
+    ap asks (run-letters-begun stage (ready stage role (Some field) cs outer) letters more allowed)
+    ∙ word_ends stage role field cs outer letters more allowed ends.0 ends.1 clauses h
+bare_test stage role field cs outer (prefix letters) more allowed unsigned ends =
+    leads_by (ready stage role (Some field) cs outer)
+    (bare_read role field cs outer (test.Prefix (letters_text letters)))
+    ((letters_print letters ++ 42 ∷ []) ++ more) more
+    (ap (run (Some (ready stage role (Some field) cs outer)))
+    (append_assoc (letters_print letters) (42 ∷ []) more)
+    ∙ run-letters-begun stage (ready stage role (Some field) cs outer) letters (42 ∷ more) allowed
+    ∙ ap (λ o. run o more) (word_star stage role field cs outer letters allowed))
+bare_test stage role field cs outer (number letters) more allowed unsigned ends = absurd unsigned
+bare_test stage role field cs outer (quote letters) more allowed unsigned ends =
+    let m = record (ready stage role (Some field) cs outer) { name = field } in
+    leads_alike (ready stage role (Some field) cs outer)
+    (bare_read role field cs outer (test.Word (letters_text letters)))
+    (quoted_print letters ++ more) more
+    (ap asks (run-quote stage role field cs outer ((letters_print letters ++ 34 ∷ []) ++ more))
+    ∙ asks-test m (quote letters) more allowed tt)
+bare_test stage role field cs outer star more allowed unsigned ends =
+    λ clauses h. ap asks (run-star stage role (Some field) cs outer more)
+    ∙ star_ends role field cs outer more clauses h
+bare_test stage role field cs outer (range r) more allowed unsigned ends =
+    let m = record (ready stage role (Some field) cs outer) { name = field } in
+    leads_alike (ready stage role (Some field) cs outer)
+    (bare_read role field cs outer (test_says (range r))) (test_print (range r) ++ more) more
+    (ap asks (run-bracket stage role field cs outer r.low_in _)
+    ∙ asks-test m (range r) more allowed tt)
+
+-- a test with a field is
+field_test : (stage : Stage) (role : Role) (field : Option ByteList) (cs : List ClauseTree)
+    (outer : List OpenList) (name : List Letter) (gap : ByteList) (t : TestLayout)
+    (more : ByteList) → IsWord name → AreBlank gap → IsTest t → TestEnds t more
+    → Leads (ready stage role field cs outer)
+    ((letters_print name ++ 58 ∷ (gap ++ test_print t)) ++ more)
+    (ready Behind Optional field
+    (cs ++ record { role = role; what = on_field (letters_text name) (test_says t) } ∷ []) outer)
+    more
+field_test stage role field cs outer name gap t more is_name blank allowed ends =
+    let m = ready stage role field cs outer in
+    let named = end_name (after_letters (Name stage) (fresh m) name) in
+    leads_alike m (end_test (test_says t) named)
+    ((letters_print name ++ 58 ∷ (gap ++ test_print t)) ++ more) more
+    (ap (λ x. asks (run (Some m) x))
+    (append_assoc (letters_print name) (58 ∷ (gap ++ test_print t)) more
+    ∙ ap (λ x. letters_print name ++ 58 ∷ x) (append_assoc gap (test_print t) more))
+    ∙ ap asks (run-name stage m name (gap ++ (test_print t ++ more)) is_name
+    ∙ run-blanks named gap (test_print t ++ more) (tested_blank named) blank)
+    ∙ asks-test named t more allowed ends)
+
+-- `*:*` is
+run-all : (stage : Stage) (role : Role) (field : Option ByteList) (cs : List ClauseTree)
+    (outer : List OpenList) (more : ByteList)
+    → run (Some (ready stage role field cs outer)) (42 ∷ 58 ∷ 42 ∷ more)
+    ≡ run (Some (ready Behind Optional field
+    (cs ++ record { role = role; what = everything } ∷ []) outer)) more
+unfolding item_step begin_item_step
+run-all stage role field cs outer more = refl
+
+-- ---- modifiers
+
+-- an item has one modifier at most
+abbrev pub MayModify : Stage → Type 0
+MayModify First = Unit {0}
+MayModify Behind = Unit {0}
+MayModify Joined = Unit {0}
+MayModify Modified = ⊥
+
+-- a modifier that isn't `NOT`
+abbrev IsSign : Modifier → Type 0
+IsSign plus = Unit {0}
+IsSign minus = Unit {0}
+IsSign bang = Unit {0}
+IsSign not_word = ⊥
+
+-- some bytes that don't go on with a modifier, before others
+modifier_ends_more : (m : Modifier) (front more : ByteList) → 0 < length front
+    → ModifierEnds m front → ModifierEnds m (front ++ more)
+modifier_ends_more plus front more some ends = tt
+modifier_ends_more minus front more some ends = tt
+modifier_ends_more bang front more some ends = tt
+modifier_ends_more not_word front more some ends = no_letter_some front more some ends
+
+-- a letter before an item leads on with the letters of `NOT`
+run-not : (stage : Stage) (role : Role) (field : Option ByteList) (cs : List ClauseTree)
+    (outer : List OpenList) (more : ByteList)
+    → run (Some (ready stage role field cs outer)) (78 ∷ 79 ∷ 84 ∷ more)
+    ≡ run (Some (record (ready stage role field cs outer)
+    { place = Letters (Name stage); text = 78 ∷ 79 ∷ 84 ∷ [] })) more
+unfolding item_step begin_item_step is_special
+run-not stage role field cs outer more = refl
+
+-- behind `NOT` the item is prohibited
+not_ends : (stage : Stage) (role : Role) (field : Option ByteList) (cs : List ClauseTree)
+    (outer : List OpenList) (b : ℕ) → MayModify stage → goes_on_word b ≡ false
+    → step (record (ready stage role field cs outer)
+    { place = Letters (Name stage); text = 78 ∷ 79 ∷ 84 ∷ [] }) b (b ∷ [])
+    ≡ step (ready Modified Prohibited field cs outer) b (b ∷ [])
+unfolding is_operator
+not_ends First role field cs outer b may l = rw l refl
+not_ends Behind role field cs outer b may l = rw l refl
+not_ends Joined role field cs outer b may l = rw l refl
+not_ends Modified role field cs outer b may l = absurd may
+
+-- a sign is read
+run-sign : (stage : Stage) (role : Role) (field : Option ByteList) (cs : List ClauseTree)
+    (outer : List OpenList) (m : Modifier) (more : ByteList) → MayModify stage → IsSign m
+    → run (Some (ready stage role field cs outer)) (modifier_print m ++ more)
+    ≡ run (Some (ready Modified (modifier_role m) field cs outer)) more
+unfolding item_step begin_item_step
+run-sign First role field cs outer plus more may sign = refl
+run-sign First role field cs outer minus more may sign = refl
+run-sign First role field cs outer bang more may sign = refl
+run-sign First role field cs outer not_word more may sign = absurd sign
+run-sign Behind role field cs outer plus more may sign = refl
+run-sign Behind role field cs outer minus more may sign = refl
+run-sign Behind role field cs outer bang more may sign = refl
+run-sign Behind role field cs outer not_word more may sign = absurd sign
+run-sign Joined role field cs outer plus more may sign = refl
+run-sign Joined role field cs outer minus more may sign = refl
+run-sign Joined role field cs outer bang more may sign = refl
+run-sign Joined role field cs outer not_word more may sign = absurd sign
+run-sign Modified role field cs outer m more may sign = absurd may
+
+-- so is a modifier
+modifier_leads : (stage : Stage) (role : Role) (field : Option ByteList) (cs : List ClauseTree)
+    (outer : List OpenList) (m : Modifier) (more : ByteList) → MayModify stage
+    → ModifierEnds m more
+    → Leads (ready stage role field cs outer) (modifier_print m ++ more)
+    (ready Modified (modifier_role m) field cs outer) more
+modifier_leads stage role field cs outer plus more may ends =
+    leads_by (ready stage role field cs outer) (ready Modified (modifier_role plus) field cs outer)
+    (43 ∷ more) more (run-sign stage role field cs outer plus more may tt)
+modifier_leads stage role field cs outer minus more may ends =
+    leads_by (ready stage role field cs outer) (ready Modified (modifier_role minus) field cs outer)
+    (45 ∷ more) more (run-sign stage role field cs outer minus more may tt)
+modifier_leads stage role field cs outer bang more may ends =
+    leads_by (ready stage role field cs outer) (ready Modified (modifier_role bang) field cs outer)
+    (33 ∷ more) more (run-sign stage role field cs outer bang more may tt)
+modifier_leads stage role field cs outer not_word more may ends =
+    leads_alike (ready stage role field cs outer) (ready Modified Prohibited field cs outer)
+    (78 ∷ 79 ∷ 84 ∷ more) more
+    (ap asks (run-not stage role field cs outer more)
+    ∙ ends_alike (record (ready stage role field cs outer)
+    { place = Letters (Name stage); text = 78 ∷ 79 ∷ 84 ∷ [] })
+    (ready Modified Prohibited field cs outer) more ends
+    (λ b l. not_ends stage role field cs outer b may l))
+
+-- ---- conjunctions
+
+-- the last clause, if it has an `AND` beside it
+abbrev pub beside_last : Bool → List ClauseTree → List ClauseTree
+beside_last true cs = require_last cs
+beside_last false cs = cs
+
+-- the letters of a conjunction are read behind an item
+run-conjunction : (field : Option ByteList) (cs : List ClauseTree) (outer : List OpenList)
+    (c : Conjunction) (more : ByteList)
+    → run (Some (ready Behind Optional field cs outer)) (conjunction_print c ++ more)
+    ≡ run (Some (record (ready Behind Optional field cs outer)
+    { place = Letters (Name Behind); text = conjunction_print c })) more
+unfolding item_step begin_item_step is_special
+run-conjunction field cs outer and_word more = refl
+run-conjunction field cs outer and_signs more = refl
+run-conjunction field cs outer or_word more = refl
+run-conjunction field cs outer or_signs more = refl
+
+-- behind it the next item begins
+conjunction_ends : (field : Option ByteList) (cs : List ClauseTree) (outer : List OpenList)
+    (c : Conjunction) (b : ℕ) → goes_on_word b ≡ false
+    → step (record (ready Behind Optional field cs outer)
+    { place = Letters (Name Behind); text = conjunction_print c }) b (b ∷ [])
+    ≡ step (ready Joined (plain_role (is_and c)) field (beside_last (is_and c) cs) outer) b (b ∷ [])
+unfolding is_operator
+conjunction_ends field cs outer and_word b l = rw l refl
+conjunction_ends field cs outer and_signs b l = rw l refl
+conjunction_ends field cs outer or_word b l = rw l refl
+conjunction_ends field cs outer or_signs b l = rw l refl
+
+-- so it leads on
+conjunction_leads : (field : Option ByteList) (cs : List ClauseTree) (outer : List OpenList)
+    (c : Conjunction) (more : ByteList) → NoLetter more
+    → Leads (ready Behind Optional field cs outer) (conjunction_print c ++ more)
+    (ready Joined (plain_role (is_and c)) field (beside_last (is_and c) cs) outer) more
+conjunction_leads field cs outer c more ends =
+    leads_alike (ready Behind Optional field cs outer)
+    (ready Joined (plain_role (is_and c)) field (beside_last (is_and c) cs) outer)
+    (conjunction_print c ++ more) more
+    (ap asks (run-conjunction field cs outer c more)
+    ∙ ends_alike (record (ready Behind Optional field cs outer)
+    { place = Letters (Name Behind); text = conjunction_print c })
+    (ready Joined (plain_role (is_and c)) field (beside_last (is_and c) cs) outer) more ends
+    (λ b l. conjunction_ends field cs outer c b l))
+
+-- ---- roles
+
+-- false or something is that
+or_false : (b : Bool) → (b || false) ≡ b
+or_false true = refl
+or_false false = refl
+
+-- an item with an `AND` beside it
+role_beside-item : (before : Bool) (i : ItemLayout)
+    → role_beside (item_role before i) ≡ item_role (before || true) i
+role_beside-item true (plain_laid c) = refl
+role_beside-item false (plain_laid c) = refl
+role_beside-item before (modified_laid plus gap c) = refl
+role_beside-item before (modified_laid minus gap c) = refl
+role_beside-item before (modified_laid bang gap c) = refl
+role_beside-item before (modified_laid not_word gap c) = refl
+
+-- the clauses behind an item and what joins it to the next
+pub beside_last-item : (and before : Bool) (field : Option ByteList) (cs : List ClauseTree)
+    (i : ItemLayout)
+    → beside_last and
+    (cs ++ record { role = item_role before i; what = item_says field i } ∷ [])
+    ≡ cs ++ record { role = item_role (before || and) i; what = item_says field i } ∷ []
+beside_last-item true before field cs i =
+    require_last-append cs (record { role = item_role before i; what = item_says field i })
+    ∙ ap (λ (r : Role). cs ++ record { role = r; what = item_says field i } ∷ [])
+    (role_beside-item before i)
+beside_last-item false before field cs i =
+    ap (λ (x : Bool). cs ++ record { role = item_role x i; what = item_says field i } ∷ [])
+    (sym (or_false before))
+
+-- ---- parentheses
+
+-- a list opens
+open_step : (stage : Stage) (role : Role) (field : Option ByteList) (cs : List ClauseTree)
+    (outer : List OpenList) → length outer < level_limit
+    → step (ready stage role field cs outer) 40 (40 ∷ [])
+    ≡ Some (ready First Optional field []
+    (record { role = role; clauses = cs; outside = Same } ∷ outer))
+unfolding item_step
+open_step stage role field cs outer room = rw (lt-ltb _ _ room) refl
+
+-- a field's list opens
+open_group_step : (stage : Stage) (role : Role) (field : Option ByteList) (cs : List ClauseTree)
+    (outer : List OpenList) (name : List Letter) → length outer < level_limit
+    → step (end_name (after_letters (Name stage) (fresh (ready stage role field cs outer)) name))
+    40 (40 ∷ [])
+    ≡ Some (ready First Optional (Some (letters_text name)) []
+    (record { role = role; clauses = cs; outside = Other field } ∷ outer))
+unfolding test_step
+open_group_step stage role field cs outer name room = rw (lt-ltb _ _ room) refl
+
+-- a list closes
+close_step : (field : Option ByteList) (cs : List ClauseTree) (o : OpenList)
+    (outer : List OpenList)
+    → step (ready Behind Optional field cs (o ∷ outer)) 41 (41 ∷ [])
+    ≡ Some (ready Behind Optional (outer_field o.outside field)
+    (o.clauses ++ record { role = o.role; what = nested (trees_of cs) } ∷ []) outer)
+unfolding item_step
+close_step field cs o outer = refl
+
+-- a list in parentheses is read where the list is, which opens in this one
+group_leads : (m : Machine) (outside : Outside) (role : Role) (field : Option ByteList)
+    (cs inner : List ClauseTree) (outer : List OpenList) (before list more : ByteList)
+    → AreBlank before
+    → step m 40 (40 ∷ []) ≡ Some (ready First Optional field []
+    (record { role = role; clauses = cs; outside = outside } ∷ outer))
+    → Leads (ready First Optional field []
+    (record { role = role; clauses = cs; outside = outside } ∷ outer)) (list ++ 41 ∷ more)
+    (ready Behind Optional field inner
+    (record { role = role; clauses = cs; outside = outside } ∷ outer)) (41 ∷ more)
+    → Leads m ((40 ∷ (before ++ (list ++ 41 ∷ []))) ++ more)
+    (ready Behind Optional (outer_field outside field)
+    (cs ++ record { role = role; what = nested (trees_of inner) } ∷ []) outer) more
+group_leads m outside role field cs inner outer before list more blank opens reads =
+    λ clauses h.
+    let o : OpenList = record { role = role; clauses = cs; outside = outside } in
+    ap (λ t. asks (run (Some m) (40 ∷ t)))
+    (append_assoc before (list ++ 41 ∷ []) more
+    ∙ ap (λ t. before ++ t) (append_assoc list (41 ∷ []) more))
+    ∙ ap (λ x. asks (run x (before ++ (list ++ 41 ∷ more)))) opens
+    ∙ ap asks (run-gap First Optional field [] (o ∷ outer) before (list ++ 41 ∷ more) blank)
+    ∙ reads clauses (ap (λ x. asks (run x more)) (close_step field inner o outer) ∙ h)
+
+-- ---- lists
+
+-- a list is read in these lists, behind whatever may stand before it
+abbrev ListLeads : Option ByteList → List OpenList → ListLayout → ByteList → Type 0
+ListLeads field outer list more =
+    (stage : Stage) (before : Bool) (cs : List ClauseTree) → MayModify stage
+    → Leads (ready stage (plain_role before) field cs outer) (list_print list ++ more)
+    (ready Behind Optional field (cs ++ list_says field before list) outer) more
+
+-- what joins an item to the next is read, and the items behind it where they are
+joint_leads : (before : Bool) (field : Option ByteList) (cs : List ClauseTree)
+    (outer : List OpenList) (i : ItemLayout) (j : JointLayout) (list : ListLayout)
+    (more : ByteList) → IsJoint j (list_print list) → Closes more
+    → ListLeads field outer list more
+    → Leads (ready Behind Optional field
+    (cs ++ record { role = item_role before i; what = item_says field i } ∷ []) outer)
+    (joint_print j ++ (list_print list ++ more))
+    (ready Behind Optional field (cs ++ list_says field before (more_laid i j list)) outer) more
+joint_leads before field cs outer i (apart gap) list more joint closes reads =
+    λ clauses h.
+    let cs' = cs ++ record { role = item_role before i; what = item_says field i } ∷ [] in
+    ap asks (run-gap Behind Optional field cs' outer gap (list_print list ++ more) joint)
+    ∙ reads Behind false cs' tt clauses
+    (ap (λ (x : List ClauseTree). asks (run (Some (ready Behind Optional field x outer)) more))
+    (ap (λ (x : List ClauseTree). x ++ list_says field false list)
+    (beside_last-item false before field cs i)
+    ∙ append_assoc cs
+    (record { role = item_role (before || false) i; what = item_says field i } ∷ [])
+    (list_says field false list))
+    ∙ h)
+joint_leads before field cs outer i (joined gap c behind) list more joint closes reads =
+    λ clauses h.
+    let cs' = cs ++ record { role = item_role before i; what = item_says field i } ∷ [] in
+    let next = beside_last (is_and c) cs' in
+    let letter : NoLetter (behind ++ (list_print list ++ more)) =
+    subst NoLetter (append_assoc behind (list_print list) more)
+    (no_letter_more (behind ++ list_print list) more joint.2 (closes_letter more closes)) in
+    ap (λ x. asks (run (Some (ready Behind Optional field cs' outer)) x))
+    (append_assoc gap (conjunction_print c ++ behind) (list_print list ++ more)
+    ∙ ap (λ x. gap ++ x)
+    (append_assoc (conjunction_print c) behind (list_print list ++ more)))
+    ∙ ap asks (run-gap Behind Optional field cs' outer gap
+    (conjunction_print c ++ (behind ++ (list_print list ++ more))) joint.0)
+    ∙ conjunction_leads field cs' outer c (behind ++ (list_print list ++ more)) letter clauses
+    (ap asks (run-gap Joined (plain_role (is_and c)) field next outer behind
+    (list_print list ++ more) joint.1)
+    ∙ reads Joined (is_and c) next tt clauses
+    (ap (λ (x : List ClauseTree). asks (run (Some (ready Behind Optional field x outer)) more))
+    (ap (λ (x : List ClauseTree). x ++ list_says field (is_and c) list)
+    (beside_last-item (is_and c) before field cs i)
+    ∙ append_assoc cs
+    (record { role = item_role (before || is_and c) i; what = item_says field i } ∷ [])
+    (list_says field (is_and c) list))
+    ∙ h))
+
+mutual
+  -- a clause is read
+  clause_leads : (stage : Stage) (role : Role) (field : Option ByteList) (cs : List ClauseTree)
+      (outer : List OpenList) (c : ClauseLayout) (more : ByteList) → IsClause field c
+      → clause_levels c + length outer ≤ level_limit → ClauseEnds c more
+      → Leads (ready stage role field cs outer) (clause_print c ++ more)
+      (ready Behind Optional field
+      (cs ++ record { role = role; what = clause_says field c } ∷ []) outer) more
+  clause_leads stage role field cs outer all_laid more allowed levels ends =
+      leads_by (ready stage role field cs outer)
+      (ready Behind Optional field (cs ++ record { role = role; what = everything } ∷ []) outer)
+      (42 ∷ 58 ∷ 42 ∷ more) more (run-all stage role field cs outer more)
+  clause_leads stage role field cs outer (field_laid name gap t) more allowed levels ends =
+      field_test stage role field cs outer name gap t more allowed.0 allowed.1 allowed.2 ends
+  clause_leads stage role None cs outer (test_laid t) more allowed levels ends =
+      absurd allowed.0
+  clause_leads stage role (Some field) cs outer (test_laid t) more allowed levels ends =
+      bare_test stage role field cs outer t more allowed.1 allowed.2 ends
+  clause_leads stage role field cs outer (group_laid before list) more allowed levels ends =
+      let o : OpenList = record { role = role; clauses = cs; outside = Same } in
+      group_leads (ready stage role field cs outer) Same role field cs (list_says field false list)
+      outer before (list_print list) more allowed.0
+      (open_step stage role field cs outer (omega (arith, levels)))
+      (list_leads First false field [] (o ∷ outer) list (41 ∷ more) tt allowed.1
+      (omega (arith, levels)) refl)
+  clause_leads stage role field cs outer (field_group_laid name gap before list) more allowed
+      levels ends =
+      λ clauses h.
+      let o : OpenList = record { role = role; clauses = cs; outside = Other field } in
+      let m = ready stage role field cs outer in
+      let named = end_name (after_letters (Name stage) (fresh m) name) in
+      let inside = 40 ∷ (before ++ (list_print list ++ 41 ∷ [])) in
+      ap (λ x. asks (run (Some m) x))
+      (append_assoc (letters_print name) (58 ∷ (gap ++ inside)) more
+      ∙ ap (λ x. letters_print name ++ 58 ∷ x) (append_assoc gap inside more))
+      ∙ ap asks (run-name stage m name (gap ++ (inside ++ more)) allowed.0
+      ∙ run-blanks named gap (inside ++ more) (tested_blank named) allowed.1)
+      ∙ group_leads named (Other field) role (Some (letters_text name)) cs
+      (list_says (Some (letters_text name)) false list) outer before (list_print list) more
+      allowed.2 (open_group_step stage role field cs outer name (omega (arith, levels)))
+      (list_leads First false (Some (letters_text name)) [] (o ∷ outer) list (41 ∷ more) tt
+      allowed.3 (omega (arith, levels)) refl) clauses h
+
+  -- an item is read
+  item_leads : (stage : Stage) (before : Bool) (field : Option ByteList) (cs : List ClauseTree)
+      (outer : List OpenList) (i : ItemLayout) (more : ByteList) → MayModify stage
+      → IsItem field i → item_levels i + length outer ≤ level_limit → ItemEnds i more
+      → Leads (ready stage (plain_role before) field cs outer) (item_print i ++ more)
+      (ready Behind Optional field
+      (cs ++ record { role = item_role before i; what = item_says field i } ∷ []) outer) more
+  item_leads stage before field cs outer (plain_laid c) more may allowed levels ends =
+      clause_leads stage (plain_role before) field cs outer c more allowed levels ends
+  item_leads stage before field cs outer (modified_laid m gap c) more may allowed levels ends =
+      λ clauses h.
+      let some : 0 < length (gap ++ clause_print c) =
+      omega (arith, clause_some field c allowed.1, length-append gap (clause_print c)) in
+      ap (λ x. asks (run (Some (ready stage (plain_role before) field cs outer)) x))
+      (append_assoc (modifier_print m) (gap ++ clause_print c) more)
+      ∙ modifier_leads stage (plain_role before) field cs outer m
+      ((gap ++ clause_print c) ++ more) may
+      (modifier_ends_more m (gap ++ clause_print c) more some allowed.2) clauses
+      (ap (λ x. asks (run (Some (ready Modified (modifier_role m) field cs outer)) x))
+      (append_assoc gap (clause_print c) more)
+      ∙ ap asks (run-gap Modified (modifier_role m) field cs outer gap (clause_print c ++ more)
+      allowed.0)
+      ∙ clause_leads Modified (modifier_role m) field cs outer c more allowed.1 levels ends clauses
+      h)
+
+  -- a list is read
+  list_leads : (stage : Stage) (before : Bool) (field : Option ByteList) (cs : List ClauseTree)
+      (outer : List OpenList) (list : ListLayout) (more : ByteList) → MayModify stage
+      → AreItems field list → list_levels list + length outer ≤ level_limit → Closes more
+      → Leads (ready stage (plain_role before) field cs outer) (list_print list ++ more)
+      (ready Behind Optional field (cs ++ list_says field before list) outer) more
+  list_leads stage before field cs outer (last_laid i behind) more may allowed levels closes =
+      λ clauses h.
+      let cs' = cs ++ record { role = item_role before i; what = item_says field i } ∷ [] in
+      let letter = no_letter_more behind more (blanks_letter behind allowed.1)
+      (closes_letter more closes) in
+      let star = no_star_more behind more (blanks_star behind allowed.1)
+      (closes_star more closes) in
+      ap (λ x. asks (run (Some (ready stage (plain_role before) field cs outer)) x))
+      (append_assoc (item_print i) behind more)
+      ∙ item_leads stage before field cs outer i (behind ++ more) may allowed.0 levels
+      (item_ends_by i (behind ++ more) letter star) clauses
+      (ap asks (run-gap Behind Optional field cs' outer behind more allowed.1) ∙ h)
+  list_leads stage before field cs outer (more_laid i j list) more may allowed levels closes =
+      λ clauses h.
+      let rest = joint_print j ++ list_print list in
+      ap (λ x. asks (run (Some (ready stage (plain_role before) field cs outer)) x))
+      (append_assoc (item_print i) rest more)
+      ∙ item_leads stage before field cs outer i (rest ++ more) may allowed.0
+      (omega (arith, levels))
+      (item_ends_more i rest more allowed.1 (closes_letter more closes) (closes_star more closes))
+      clauses
+      (ap (λ x. asks (run (Some (ready Behind Optional field
+      (cs ++ record { role = item_role before i; what = item_says field i } ∷ []) outer)) x))
+      (append_assoc (joint_print j) (list_print list) more)
+      ∙ joint_leads before field cs outer i j list more allowed.2 closes
+      (λ s b x may. list_leads s b field x outer list more may allowed.3 (omega (arith, levels))
+      closes) clauses h)
+
+-- the clauses of the outermost list behind an item
+last_asks : (cs : List ClauseTree) → Asks (Some (ready Behind Optional None cs [])) [] cs
+unfolding item_step
+last_asks cs = refl
 
 -- a query is read as what it says
 pub complete : (bytes : ByteList) (clauses : List ClauseTree) → IsQuery bytes clauses
     → query_of bytes ≡ Some clauses
 complete bytes clauses q =
-    ap (option_map one_clause)
-    (ap (λ t. asks (run (Some start) t)) q.printed
-    ∙ ap asks (run-blanks start q.before (layout_print q.layout ++ q.behind) (start_blank start)
+    let said = list_says None false q.layout in
+    ap (λ t. asks (run (Some start) t))
+    (q.printed ∙ sym (append-nil (q.before ++ list_print q.layout))
+    ∙ append_assoc q.before (list_print q.layout) [])
+    ∙ ap asks (run-gap First Optional None [] [] q.before (list_print q.layout ++ [])
     q.blank_before)
-    ∙ asks-clause start q.layout q.behind q.allowed q.blank_behind)
+    ∙ list_leads First false None [] [] q.layout [] tt q.allowed (omega (arith, q.levels)) tt said
+    (last_asks said)
     ∙ ap Some (sym q.says)

@@ -1,10 +1,9 @@
 -- What an answer by the machine says of the text.
 use Rattle.std.proofs.Common.{◌≡◌, ℕ, ◌+◌, List, take, drop, Option, Some, None, ap, sym, ◌∙◌}
 use Rattle.std.proofs.Common.{Result, Ok, Err, IfOk, IfErr, OnOk, take-append-drop}
-use Rattle.std.specs.Prelude.{option_map}
 use Rattle.tuple_values.specs.Document.{ByteList, Doc}
-use Rattle.query_syntax.specs.Tree.{WhatTree, ClauseTree}
-use Rattle.query_syntax.specs.Grammar.{IsQuery, IsPlace, one_clause}
+use Rattle.query_syntax.specs.Tree.{ClauseTree}
+use Rattle.query_syntax.specs.Grammar.{IsQuery, IsPlace}
 use Rattle.query_syntax.specs.Machine.{Machine, start}
 use Rattle.query_syntax.specs.Reading.{run, asks, query_of, Sticks, Ends}
 use Rattle.query_syntax.specs.Meaning.{IsReadable, text_matches, may_match}
@@ -21,17 +20,15 @@ use Rattle.query_syntax.proofs.PlaceLemmas.{ends_place}
 -- what sticks says nothing
 pub sticks_none : (bytes : ByteList) (at : ℕ) → Sticks bytes at → query_of bytes ≡ None
 sticks_none bytes at s =
-    ap (λ o. option_map one_clause (asks o))
+    ap asks
     (ap (run (Some start)) (sym (take-append-drop (at + 1) bytes))
     ∙ run-append (Some start) (take (at + 1) bytes) (drop (at + 1) bytes)
     ∙ ap (λ o. run o (drop (at + 1) bytes)) s.stuck)
 
--- what is asked for at the end of a run is what the bytes say
-pub query_of-end : (bytes : ByteList) (m : Machine) (what : Option WhatTree)
-    → run (Some start) bytes ≡ Some m → what ≡ asks (Some m)
-    → query_of bytes ≡ option_map one_clause what
-query_of-end bytes m what is says =
-    ap (λ o. option_map one_clause (asks o)) is ∙ ap (option_map one_clause) (sym says)
+-- the clauses at the end of a run are what the bytes say
+pub query_of-end : (bytes : ByteList) (m : Machine) (clauses : Option (List ClauseTree))
+    → run (Some start) bytes ≡ Some m → clauses ≡ asks (Some m) → query_of bytes ≡ clauses
+query_of-end bytes m clauses is says = ap asks is ∙ sym says
 
 -- bytes without a reading are no query
 unread : (bytes : ByteList) → query_of bytes ≡ None → ¬ (IsReadable bytes)

@@ -1,12 +1,11 @@
 -- The reading of a text with the place of its fault is the run of the machine.
-use Rattle.std.proofs.Common.{◌≡◌, ℕ, zero, suc, ◌+◌, ◌-◌, ◌<◌, List, [], ◌∷◌, length, take, Option}
+use Rattle.std.proofs.Common.{◌≡◌, ℕ, zero, suc, ◌+◌, ◌<◌, List, [], ◌∷◌, length, take, Option}
 use Rattle.std.proofs.Common.{Some, None, Result, Ok, Err, refl, ap, sym, ◌∙◌, arith, add-one}
-use Rattle.std.specs.Prelude.{option_map, IfErr}
+use Rattle.std.specs.Prelude.{IfErr}
 use Rattle.tuple_values.specs.Document.{ByteList}
-use Rattle.query_syntax.specs.Grammar.{one_clause}
 use Rattle.query_syntax.specs.Machine.{Machine, start}
 use Rattle.query_syntax.specs.Steps.{step}
-use Rattle.query_syntax.specs.Tree.{WhatTree, ClauseTree}
+use Rattle.query_syntax.specs.Tree.{ClauseTree}
 use Rattle.query_syntax.specs.Reading.{run, asks, query_of, asked_at, read_from, read_of, Ends}
 use Rattle.query_syntax.specs.Reading.{at_a_byte, at_the_end}
 use Rattle.query_syntax.proofs.RunLemmas.{run-nothing}
@@ -15,7 +14,7 @@ use Rattle.query_syntax.specs.declared.query.Query.{Query}
 use Rattle.query_syntax.specs.declared.fault.QueryFault.{QueryFault}
 use Rattle.query_syntax.specs.declared.fault.QueryFault.TheVariants.{BadQuery, OutOfMemory}
 
--- bytes that are run to their end are read as what is asked for there
+-- bytes that are run to their end are read as the clauses there
 read_from-run : (at : ℕ) (o : Option Machine) (bytes : ByteList) (m : Machine)
     → run o bytes ≡ Some m → read_from at o bytes ≡ asked_at (at + length bytes) (asks (Some m))
 read_from-run at None bytes m e = absurd (cc)
@@ -54,10 +53,10 @@ read_of-ends bytes at (at_the_end m is ran wanting) =
     ∙ ap (asked_at (0 + length bytes)) wanting ∙ ap Err (omega (arith, is))
 
 -- clauses that are said there
-said_there : (at : ℕ) (w : Option WhatTree) (clauses : List ClauseTree)
-    → option_map one_clause w ≡ Some clauses → asked_at at w ≡ Ok clauses
+said_there : (at : ℕ) (w : Option (List ClauseTree)) (clauses : List ClauseTree)
+    → w ≡ Some clauses → asked_at at w ≡ Ok clauses
 said_there at None clauses e = absurd (cc)
-said_there at (Some what) clauses e = cc
+said_there at (Some others) clauses e = cc
 
 -- a text that says clauses is read as those
 pub read_of-says : (bytes : ByteList) (clauses : List ClauseTree)
@@ -66,7 +65,7 @@ unfolding read_of
 read_of-says bytes clauses said = go (run (Some start) bytes) refl said
   where
     go : (o : Option Machine) → run (Some start) bytes ≡ o
-        → option_map one_clause (asks o) ≡ Some clauses
+        → asks o ≡ Some clauses
         → read_from 0 (Some start) bytes ≡ Ok clauses
     go None ran e = absurd (cc)
     go (Some m) ran e =

@@ -6,44 +6,45 @@ use Rattle.std.proofs.lemmas.Bool.{eqb-true, cond_both, both_ways}
 use Rattle.tuple_values.specs.Document.{ByteList}
 use Rattle.query_syntax.specs.Letters.{Letter, plain, escaped, AreLetters, letters_print}
 use Rattle.query_syntax.specs.Machine.{Machine, is_letter, takes, push, letter_step, begin}
-use Rattle.query_syntax.specs.Machine.{end_step}
+use Rattle.query_syntax.specs.Steps.{end_step}
 use Rattle.query_syntax.specs.Reading.{run, asks}
-use Rattle.query_syntax.specs.Tree.{WhatTree}
+use Rattle.query_syntax.specs.Tree.{ClauseTree}
 use Rattle.query_syntax.specs.declared.place.Kind.{Kind}
 use Rattle.query_syntax.specs.declared.place.Place.TheVariants.{Letters, Escape}
 use Rattle.query_syntax.proofs.ClassLemmas.{taken_letter}
 use Rattle.query_syntax.proofs.LetterLemmas.{at, fresh, after_letters, after-nothing, after-plain}
 use Rattle.query_syntax.proofs.LetterLemmas.{after-escaped, begin-taken}
 
--- the bytes lead from here to an end that asks for this
-abbrev pub Asks : Option Machine → ByteList → WhatTree → Type 0
-Asks o bytes what = asks (run o bytes) ≡ Some what
+-- the bytes lead from here to an end with these clauses
+abbrev pub Asks : Option Machine → ByteList → List ClauseTree → Type 0
+Asks o bytes clauses = asks (run o bytes) ≡ Some clauses
 
 -- nothing is read from nowhere
-pub nowhere : {G : Type 0} (bytes : ByteList) (what : WhatTree) → Asks None bytes what → G
-nowhere bytes what h = absurd cc
+pub nowhere : {G : Type 0} (bytes : ByteList) (clauses : List ClauseTree)
+    → Asks None bytes clauses → G
+nowhere bytes clauses h = absurd cc
 
 -- what follows from both answers to a test follows
 pub either : {G : Type 0} (test : Bool) (x y : Option Machine) (bytes : ByteList)
-    (what : WhatTree)
-    → (test ≡ true → Asks x bytes what → G) → (test ≡ false → Asks y bytes what → G)
-    → Asks (if test then x else y) bytes what → G
-either true x y bytes what f g h = f refl h
-either false x y bytes what f g h = g refl h
+    (clauses : List ClauseTree)
+    → (test ≡ true → Asks x bytes clauses → G) → (test ≡ false → Asks y bytes clauses → G)
+    → Asks (if test then x else y) bytes clauses → G
+either true x y bytes clauses f g h = f refl h
+either false x y bytes clauses f g h = g refl h
 
 -- the same where no refuses
 pub only_true : {G : Type 0} (test : Bool) (x : Option Machine) (bytes : ByteList)
-    (what : WhatTree) → (test ≡ true → Asks x bytes what → G)
-    → Asks (if test then x else None) bytes what → G
-only_true test x bytes what f h =
-    either test x None bytes what f (λ is none. nowhere bytes what none) h
+    (clauses : List ClauseTree) → (test ≡ true → Asks x bytes clauses → G)
+    → Asks (if test then x else None) bytes clauses → G
+only_true test x bytes clauses f h =
+    either test x None bytes clauses f (λ is none. nowhere bytes clauses none) h
 
 -- and where yes refuses
 pub only_false : {G : Type 0} (test : Bool) (y : Option Machine) (bytes : ByteList)
-    (what : WhatTree) → (test ≡ false → Asks y bytes what → G)
-    → Asks (if test then None else y) bytes what → G
-only_false test y bytes what f h =
-    either test None y bytes what (λ is none. nowhere bytes what none) f h
+    (clauses : List ClauseTree) → (test ≡ false → Asks y bytes clauses → G)
+    → Asks (if test then None else y) bytes clauses → G
+only_false test y bytes clauses f h =
+    either test None y bytes clauses (λ is none. nowhere bytes clauses none) f h
 
 -- no letter of this kind begins the bytes
 abbrev pub Stops : Kind → ByteList → Type 0
@@ -51,125 +52,127 @@ Stops kind [] = Unit {0}
 Stops kind (b ∷ bytes) = takes kind b ≡ false
 
 -- letters, and what is left
-pub record Span (kind : Kind) (m : Machine) (bytes : ByteList) (what : WhatTree) : Type 0 where
+pub record Span (kind : Kind) (m : Machine) (bytes : ByteList) (clauses : List ClauseTree)
+    : Type 0 where
   pub letters : List Letter
   pub rest : ByteList
   pub are : AreLetters (is_letter kind) letters
   pub is : bytes ≡ letters_print letters ++ rest
-  pub reads : Asks (Some (after_letters kind m letters)) rest what
+  pub reads : Asks (Some (after_letters kind m letters)) rest clauses
   pub stops : Stops kind rest
 
 -- no letters
-span_none : (kind : Kind) (m : Machine) (bytes : ByteList) (what : WhatTree) → Stops kind bytes
-    → Asks (Some (at (Letters kind) m)) bytes what → Span kind m bytes what
-span_none kind m bytes what stops h = record {
+span_none : (kind : Kind) (m : Machine) (bytes : ByteList) (clauses : List ClauseTree)
+    → Stops kind bytes → Asks (Some (at (Letters kind) m)) bytes clauses → Span kind m bytes clauses
+span_none kind m bytes clauses stops h = record {
   letters = [];
   rest = bytes;
   are = tt;
   is = refl;
-  reads = subst (λ n. Asks (Some n) bytes what) (after-nothing kind m) h;
+  reads = subst (λ n. Asks (Some n) bytes clauses) (after-nothing kind m) h;
   stops = stops;
 }
 
 -- a letter by itself before letters
-unfoldable pub span_plain : (kind : Kind) (m : Machine) (b : ℕ) (bytes : ByteList) (what : WhatTree)
-    → is_letter kind b ≡ true → Span kind (record m { text = m.text ++ b ∷ [] }) bytes what
-    → Span kind m (b ∷ bytes) what
-span_plain kind m b bytes what letter s = record {
+unfoldable pub span_plain : (kind : Kind) (m : Machine) (b : ℕ) (bytes : ByteList)
+    (clauses : List ClauseTree) → is_letter kind b ≡ true → Span kind (record m { text = m.text ++ b ∷ [] }) bytes clauses
+    → Span kind m (b ∷ bytes) clauses
+span_plain kind m b bytes clauses letter s = record {
   letters = plain b ∷ s.letters;
   rest = s.rest;
   are = (letter, s.are);
   is = ap (λ t. b ∷ t) s.is;
-  reads = subst (λ n. Asks (Some n) s.rest what) (after-plain kind m b s.letters) s.reads;
+  reads = subst (λ n. Asks (Some n) s.rest clauses) (after-plain kind m b s.letters) s.reads;
   stops = s.stops;
 }
 
 -- a letter behind a backslash before letters
 unfoldable pub span_escaped : (kind : Kind) (m : Machine) (b : ℕ) (bytes : ByteList)
-    (what : WhatTree) → (b == 117) ≡ false
-    → Span kind (record m { text = m.text ++ b ∷ []; escapes = true }) bytes what
-    → Span kind m (92 ∷ b ∷ bytes) what
-span_escaped kind m b bytes what letter s = record {
+    (clauses : List ClauseTree) → (b == 117) ≡ false
+    → Span kind (record m { text = m.text ++ b ∷ []; escapes = true }) bytes clauses
+    → Span kind m (92 ∷ b ∷ bytes) clauses
+span_escaped kind m b bytes clauses letter s = record {
   letters = escaped b ∷ s.letters;
   rest = s.rest;
   are = (letter, s.are);
   is = ap (λ t. 92 ∷ b ∷ t) s.is;
-  reads = subst (λ n. Asks (Some n) s.rest what) (after-escaped kind m b s.letters) s.reads;
+  reads = subst (λ n. Asks (Some n) s.rest clauses) (after-escaped kind m b s.letters) s.reads;
   stops = s.stops;
 }
 
 -- letters are read from these bytes, also behind a backslash
 record Spans (bytes : ByteList) : Type 0 where
-  inside : (kind : Kind) (m : Machine) (what : WhatTree)
-      → Asks (Some (at (Letters kind) m)) bytes what → Span kind m bytes what
-  behind : (kind : Kind) (m : Machine) (what : WhatTree)
-      → Asks (Some (at (Escape kind) m)) bytes what → Span kind m (92 ∷ bytes) what
+  inside : (kind : Kind) (m : Machine) (clauses : List ClauseTree)
+      → Asks (Some (at (Letters kind) m)) bytes clauses → Span kind m bytes clauses
+  behind : (kind : Kind) (m : Machine) (clauses : List ClauseTree)
+      → Asks (Some (at (Escape kind) m)) bytes clauses → Span kind m (92 ∷ bytes) clauses
 
 -- a byte that is taken, and what is read behind it
-span_taken : (kind : Kind) (m : Machine) (b : ℕ) (bytes : ByteList) (what : WhatTree)
+span_taken : (kind : Kind) (m : Machine) (b : ℕ) (bytes : ByteList) (clauses : List ClauseTree)
     → Spans bytes → takes kind b ≡ true
-    → Asks (Some (letter_step kind (at (Letters kind) m) b (b ∷ []))) bytes what
-    → Span kind m (b ∷ bytes) what
-span_taken kind m b bytes what later taken h =
+    → Asks (Some (letter_step kind (at (Letters kind) m) b (b ∷ []))) bytes clauses
+    → Span kind m (b ∷ bytes) clauses
+span_taken kind m b bytes clauses later taken h =
     cond_both (b == 92) (at (Escape kind) m) (push kind m (b ∷ []))
-    (λ (n : Machine). Asks (Some n) bytes what → Span kind m (b ∷ bytes) what)
-    (λ slash g. subst (λ (x : ℕ). Span kind m (x ∷ bytes) what) (sym (eqb-true b 92 slash))
-    (later.behind kind m what g))
-    (λ other g. span_plain kind m b bytes what (taken_letter kind b taken other)
-    (later.inside kind (record m { text = m.text ++ b ∷ [] }) what g))
+    (λ (n : Machine). Asks (Some n) bytes clauses → Span kind m (b ∷ bytes) clauses)
+    (λ slash g. subst (λ (x : ℕ). Span kind m (x ∷ bytes) clauses) (sym (eqb-true b 92 slash))
+    (later.behind kind m clauses g))
+    (λ other g. span_plain kind m b bytes clauses (taken_letter kind b taken other)
+    (later.inside kind (record m { text = m.text ++ b ∷ [] }) clauses g))
     h
 
 -- they are
 spans : (bytes : ByteList) → Spans bytes
 spans [] = record {
-  inside = λ kind m what h. span_none kind m [] what tt h;
-  behind = λ kind m what h. absurd cc;
+  inside = λ kind m clauses h. span_none kind m [] clauses tt h;
+  behind = λ kind m clauses h. absurd cc;
 }
 spans (b ∷ bytes) =
     let later = spans bytes in
     record {
-      inside = λ kind m what h.
+      inside = λ kind m clauses h.
           either (takes kind b) (Some (letter_step kind (at (Letters kind) m) b (b ∷ [])))
-          (end_step kind (at (Letters kind) m) b) bytes what
-          (λ taken g. span_taken kind m b bytes what later taken g)
-          (λ stops g. span_none kind m (b ∷ bytes) what stops h) h;
-      behind = λ kind m what h.
-          only_false (b == 117) (Some (push kind (record m { escapes = true }) (b ∷ []))) bytes what
-          (λ letter g. span_escaped kind m b bytes what letter
-          (later.inside kind (record m { text = m.text ++ b ∷ []; escapes = true }) what g)) h;
+          (end_step kind (at (Letters kind) m) b (b ∷ [])) bytes clauses
+          (λ taken g. span_taken kind m b bytes clauses later taken g)
+          (λ stops g. span_none kind m (b ∷ bytes) clauses stops h) h;
+      behind = λ kind m clauses h.
+          only_false (b == 117) (Some (push kind (record m { escapes = true }) (b ∷ []))) bytes
+          clauses
+          (λ letter g. span_escaped kind m b bytes clauses letter
+          (later.inside kind (record m { text = m.text ++ b ∷ []; escapes = true }) clauses g)) h;
     }
 
 -- letters are read where some were
-pub span : (kind : Kind) (m : Machine) (bytes : ByteList) (what : WhatTree)
-    → Asks (Some (at (Letters kind) m)) bytes what → Span kind m bytes what
-span kind m bytes what h = (spans bytes).inside kind m what h
+pub span : (kind : Kind) (m : Machine) (bytes : ByteList) (clauses : List ClauseTree)
+    → Asks (Some (at (Letters kind) m)) bytes clauses → Span kind m bytes clauses
+span kind m bytes clauses h = (spans bytes).inside kind m clauses h
 
 -- letters that begin with a byte
-pub record Begun (kind : Kind) (m : Machine) (b : ℕ) (bytes : ByteList) (what : WhatTree)
+pub record Begun (kind : Kind) (m : Machine) (b : ℕ) (bytes : ByteList) (clauses : List ClauseTree)
     : Type 0 where
   pub taken : takes kind b ≡ true
-  pub letters : Span kind (fresh m) (b ∷ bytes) what
+  pub letters : Span kind (fresh m) (b ∷ bytes) clauses
 
 -- letters are read where they may begin
-pub span_begun : (kind : Kind) (m : Machine) (b : ℕ) (bytes : ByteList) (what : WhatTree)
-    → Asks (begin kind m b (b ∷ [])) bytes what → Begun kind m b bytes what
-span_begun kind m b bytes what h =
-    only_true (takes kind b) (Some (letter_step kind (fresh m) b (b ∷ []))) bytes what
+pub span_begun : (kind : Kind) (m : Machine) (b : ℕ) (bytes : ByteList) (clauses : List ClauseTree)
+    → Asks (begin kind m b (b ∷ [])) bytes clauses → Begun kind m b bytes clauses
+span_begun kind m b bytes clauses h =
+    only_true (takes kind b) (Some (letter_step kind (fresh m) b (b ∷ []))) bytes clauses
     (λ taken g. record {
       taken = taken;
       letters =
-          span kind (fresh m) (b ∷ bytes) what
-          (subst (λ o. Asks o bytes what) (begin-taken kind m b (b ∷ []) taken) h);
+          span kind (fresh m) (b ∷ bytes) clauses
+          (subst (λ o. Asks o bytes clauses) (begin-taken kind m b (b ∷ []) taken) h);
     }) h
 
 -- behind letters comes no letter
 pub span_ends : {G : Type 0} (kind : Kind) (m : Machine) (b : ℕ) (bytes : ByteList)
-    (what : WhatTree) → takes kind b ≡ false
-    → (Asks (end_step kind (at (Letters kind) m) b) bytes what → G)
-    → Asks (Some (at (Letters kind) m)) (b ∷ bytes) what → G
-span_ends kind m b bytes what stops f h =
+    (clauses : List ClauseTree) → takes kind b ≡ false
+    → (Asks (end_step kind (at (Letters kind) m) b (b ∷ [])) bytes clauses → G)
+    → Asks (Some (at (Letters kind) m)) (b ∷ bytes) clauses → G
+span_ends kind m b bytes clauses stops f h =
     either (takes kind b) (Some (letter_step kind (at (Letters kind) m) b (b ∷ [])))
-    (end_step kind (at (Letters kind) m) b) bytes what
+    (end_step kind (at (Letters kind) m) b (b ∷ [])) bytes clauses
     (λ taken g. absurd (both_ways (takes kind b) stops taken)) (λ is g. f g) h
 
 -- the first letter begins with this byte

@@ -8,19 +8,26 @@ use Rattle.std.proofs.lemmas.Bool.{cases_lt}
 use Rattle.std.proofs.lemmas.Bool.Decides.{nat_tests}
 use Rattle.std.proofs.lemmas.Str.{inside_one, encode_ascii, length-encode, len_utf8_bounds}
 use Rattle.tuple_values.specs.Document.{ByteList}
-use Rattle.query_syntax.specs.Letters.{is_blank, is_special, is_sign, is_digit}
+use Rattle.query_syntax.specs.Letters.{is_blank, is_special, is_digit}
 use Rattle.query_syntax.specs.Machine.{Machine, push, takes}
+use Rattle.query_syntax.specs.Items.{end_item}
 use Rattle.query_syntax.specs.Steps.{step_at, step}
+use Rattle.query_syntax.specs.ItemSteps.{test_step, item_step, begin_item_step}
+use Rattle.query_syntax.specs.ItemSteps.{star_step}
+use Rattle.query_syntax.specs.Tree.{on_field}
+use Rattle.query_syntax.specs.declared.query.Test.TheVariants as test
 use Rattle.query_syntax.specs.Reading.{run}
 use Rattle.query_syntax.specs.declared.place.Side.TheVariants.{Low, High}
+use Rattle.query_syntax.specs.declared.place.Stage.{Stage}
+use Rattle.query_syntax.specs.declared.place.Stage.TheVariants.{Behind}
 use Rattle.query_syntax.specs.declared.place.Kind.{Kind}
 use Rattle.query_syntax.specs.declared.place.Kind.TheVariants.{Name, Word, Number, Quote, Bare}
 use Rattle.query_syntax.specs.declared.place.Kind.TheVariants.{Quoted}
 use Rattle.query_syntax.specs.declared.place.Place.{Place}
-use Rattle.query_syntax.specs.declared.place.Place.TheVariants.{Start, Star, Colon, All, Letters}
+use Rattle.query_syntax.specs.declared.place.Place.TheVariants.{Item, Star, Colon, Letters}
 use Rattle.query_syntax.specs.declared.place.Place.TheVariants.{Escape, Tested, Minus}
 use Rattle.query_syntax.specs.declared.place.Place.TheVariants.{MinusEscape, Before, Closed, Gap}
-use Rattle.query_syntax.specs.declared.place.Place.TheVariants.{T, To, Behind}
+use Rattle.query_syntax.specs.declared.place.Place.TheVariants.{T, To}
 use Rattle.query_syntax.proofs.LetterLemmas.{fresh}
 use Rattle.query_syntax.proofs.RunLemmas.{run-nothing}
 
@@ -65,10 +72,6 @@ no_special : (b : ℕ) → 128 ≤ b → is_special b ≡ false
 unfolding is_special
 no_special b wide = grind (arith, nat_tests)
 
--- it is no sign
-no_sign : (b : ℕ) → 128 ≤ b → is_sign b ≡ false
-no_sign b wide = grind (arith, nat_tests)
-
 -- it is no digit
 no_digit : (b : ℕ) → 128 ≤ b → is_digit b ≡ false
 no_digit b wide = grind (arith, nat_tests)
@@ -83,19 +86,24 @@ wide_quoted b wide = rw (off b 92 wide (omega arith), off b 34 wide (omega arith
 
 -- so it is any letter
 wide_letter : (kind : Kind) (b : ℕ) → 128 ≤ b → takes kind b ≡ true
-wide_letter Name b wide = wide_word b wide
+wide_letter (Name stage) b wide = wide_word b wide
 wide_letter Word b wide = wide_word b wide
 wide_letter Number b wide = wide_word b wide
 wide_letter Quote b wide = wide_quoted b wide
 wide_letter (Bare side) b wide = grind (arith, nat_tests)
 wide_letter (Quoted side) b wide = wide_quoted b wide
 
+-- the machine with one more behind a star that is a test, in a group of this field
+abbrev star_wide : Option ByteList → Machine → ByteList → Option Machine
+star_wide None m bytes = None
+star_wide (Some field) m bytes =
+    Some (push (Name Behind) (fresh (end_item (on_field field test.Present) m)) bytes)
+
 -- the machine with a character past ASCII more
 abbrev wide_at : Place → Machine → ByteList → Option Machine
-wide_at Start m bytes = Some (push Name (fresh m) bytes)
-wide_at Star m bytes = None
+wide_at (Item stage) m bytes = Some (push (Name stage) (fresh m) bytes)
+wide_at Star m bytes = star_wide m.field m bytes
 wide_at Colon m bytes = None
-wide_at All m bytes = None
 wide_at (Letters kind) m bytes = Some (push kind m bytes)
 wide_at (Escape kind) m bytes = Some (push kind (record m { escapes = true }) bytes)
 wide_at Tested m bytes = Some (push Word (fresh m) bytes)
@@ -106,26 +114,39 @@ wide_at (Closed side) m bytes = None
 wide_at Gap m bytes = None
 wide_at T m bytes = None
 wide_at To m bytes = None
-wide_at Behind m bytes = None
 
--- it is so
-wide_step : (place : Place) (m : Machine) (b : ℕ) (bytes : ByteList) → 128 ≤ b
-    → step_at place m b bytes ≡ wide_at place m bytes
-wide_step Start m b bytes wide =
+-- a letter begins an item
+wide_item : (stage : Stage) (m : Machine) (b : ℕ) (bytes : ByteList) → 128 ≤ b
+    → item_step stage m b bytes ≡ Some (push (Name stage) (fresh m) bytes)
+unfolding item_step begin_item_step
+wide_item stage m b bytes wide =
     rw (
-      wide_letter Name b wide,
+      wide_letter (Name stage) b wide,
       no_blank b wide,
+      off b 40 wide (omega arith),
+      off b 41 wide (omega arith),
+      off b 33 wide (omega arith),
+      off b 45 wide (omega arith),
+      off b 43 wide (omega arith),
       off b 42 wide (omega arith),
-      no_sign b wide,
+      off b 34 wide (omega arith),
+      off b 91 wide (omega arith),
+      off b 123 wide (omega arith),
       off b 92 wide (omega arith),
     ) refl
-wide_step Star m b bytes wide = rw (off b 58 wide (omega arith)) refl
-wide_step Colon m b bytes wide = rw (off b 42 wide (omega arith)) refl
-wide_step All m b bytes wide = rw (no_blank b wide) refl
-wide_step (Letters kind) m b bytes wide =
-    rw (wide_letter kind b wide, off b 92 wide (omega arith)) refl
-wide_step (Escape kind) m b bytes wide = rw (off b 117 wide (omega arith)) refl
-wide_step Tested m b bytes wide =
+
+-- one behind a star
+wide_star : (field : Option ByteList) (m : Machine) (b : ℕ) (bytes : ByteList) → 128 ≤ b
+    → star_step field m b bytes ≡ star_wide field m bytes
+wide_star None m b bytes wide = refl
+wide_star (Some field) m b bytes wide =
+    wide_item Behind (end_item (on_field field test.Present) m) b bytes wide
+
+-- one behind a colon
+wide_test : (m : Machine) (b : ℕ) (bytes : ByteList) → 128 ≤ b
+    → test_step m b bytes ≡ Some (push Word (fresh m) bytes)
+unfolding test_step
+wide_test m b bytes wide =
     rw (
       wide_letter Word b wide,
       no_blank b wide,
@@ -134,9 +155,22 @@ wide_step Tested m b bytes wide =
       off b 91 wide (omega arith),
       off b 123 wide (omega arith),
       off b 45 wide (omega arith),
+      off b 40 wide (omega arith),
       off b 43 wide (omega arith),
       off b 92 wide (omega arith),
     ) refl
+
+-- it is so at each place
+wide_step : (place : Place) (m : Machine) (b : ℕ) (bytes : ByteList) → 128 ≤ b
+    → step_at place m b bytes ≡ wide_at place m bytes
+wide_step (Item stage) m b bytes wide = wide_item stage m b bytes wide
+wide_step Star m b bytes wide =
+    rw (off b 58 wide (omega arith)) (wide_star m.field m b bytes wide)
+wide_step Colon m b bytes wide = rw (off b 42 wide (omega arith)) refl
+wide_step (Letters kind) m b bytes wide =
+    rw (wide_letter kind b wide, off b 92 wide (omega arith)) refl
+wide_step (Escape kind) m b bytes wide = rw (off b 117 wide (omega arith)) refl
+wide_step Tested m b bytes wide = wide_test m b bytes wide
 wide_step Minus m b bytes wide = rw (off b 92 wide (omega arith), no_digit b wide) refl
 wide_step MinusEscape m b bytes wide = rw (no_digit b wide) refl
 wide_step (Before side) m b bytes wide =
@@ -152,7 +186,6 @@ wide_step (Closed High) m b bytes wide =
 wide_step Gap m b bytes wide = rw (no_blank b wide, off b 84 wide (omega arith)) refl
 wide_step T m b bytes wide = rw (off b 79 wide (omega arith)) refl
 wide_step To m b bytes wide = rw (no_blank b wide) refl
-wide_step Behind m b bytes wide = rw (no_blank b wide) refl
 
 -- letters go on with them
 letters_wide : (kind : Kind) (m : Machine) (front bytes : ByteList) → AreWide bytes
@@ -167,14 +200,20 @@ letters_wide kind m front (b ∷ bytes) wide =
     ∙ letters_wide kind m (front ++ b ∷ []) bytes wide.1
     ∙ ap (λ t. Some (push kind m t)) (append_assoc front (b ∷ []) bytes)
 
+-- behind a star too
+star_run : (field : Option ByteList) (m : Machine) (b : ℕ) (bytes : ByteList) → AreWide bytes
+    → run (star_wide field m (b ∷ [])) bytes ≡ star_wide field m (b ∷ bytes)
+star_run None m b bytes wide = refl
+star_run (Some field) m b bytes wide =
+    letters_wide (Name Behind) (fresh (end_item (on_field field test.Present) m)) (b ∷ []) bytes
+    wide
+
 -- the run over the bytes of one is one step over all of them
 wide_run : (place : Place) (m : Machine) (b : ℕ) (bytes : ByteList) → AreWide bytes
     → run (wide_at place m (b ∷ [])) bytes ≡ wide_at place m (b ∷ bytes)
-wide_run Start m b bytes wide =
-    letters_wide Name (fresh m) (b ∷ []) bytes wide
-wide_run Star m b bytes wide = refl
+wide_run (Item stage) m b bytes wide = letters_wide (Name stage) (fresh m) (b ∷ []) bytes wide
+wide_run Star m b bytes wide = star_run m.field m b bytes wide
 wide_run Colon m b bytes wide = refl
-wide_run All m b bytes wide = refl
 wide_run (Letters kind) m b bytes wide = letters_wide kind m (b ∷ []) bytes wide
 wide_run (Escape kind) m b bytes wide =
     letters_wide kind (record m { escapes = true }) (b ∷ []) bytes wide
@@ -188,15 +227,19 @@ wide_run (Closed side) m b bytes wide = refl
 wide_run Gap m b bytes wide = refl
 wide_run T m b bytes wide = refl
 wide_run To m b bytes wide = refl
-wide_run Behind m b bytes wide = refl
 
--- whether one is taken is seen at its first byte
+-- whether one is taken behind a star is seen at its first byte
+star_refused : (field : Option ByteList) (m : Machine) (more less : ByteList)
+    → star_wide field m more ≡ None → star_wide field m less ≡ None
+star_refused None m more less is = refl
+star_refused (Some field) m more less is = cc
+
+-- whether one is taken is seen there at each place
 wide_refused : (place : Place) (m : Machine) (more less : ByteList) → wide_at place m more ≡ None
     → wide_at place m less ≡ None
-wide_refused Start m more less is = cc
-wide_refused Star m more less is = refl
+wide_refused (Item stage) m more less is = cc
+wide_refused Star m more less is = star_refused m.field m more less is
 wide_refused Colon m more less is = refl
-wide_refused All m more less is = refl
 wide_refused (Letters kind) m more less is = cc
 wide_refused (Escape kind) m more less is = cc
 wide_refused Tested m more less is = cc
@@ -207,7 +250,6 @@ wide_refused (Closed side) m more less is = refl
 wide_refused Gap m more less is = refl
 wide_refused T m more less is = refl
 wide_refused To m more less is = refl
-wide_refused Behind m more less is = refl
 
 -- ---- characters
 

@@ -1,26 +1,24 @@
 -- The texts of queries and the places of their faults (the forms are those of Lucene's classic
--- query syntax; the places are own). Today a text holds one clause with blanks round it.
-use Rattle.std.specs.Prelude.{◌≡◌, ℕ, ◌+◌, ◌<◌, ◌≤◌, length, take, List, [], ◌∷◌, ◌++◌}
+-- query syntax; the places and the limit are own).
+use Rattle.std.specs.Prelude.{◌≡◌, ℕ, ◌+◌, ◌<◌, ◌≤◌, length, take, List, ◌++◌, false, None}
 use Rattle.tuple_values.specs.Document.{ByteList}
 use Rattle.query_syntax.specs.Letters.{AreBlank}
-use Rattle.query_syntax.specs.Layout.{Layout, layout_print, layout_says, IsClause}
-use Rattle.query_syntax.specs.Tree.{WhatTree, ClauseTree}
-use Rattle.query_syntax.specs.declared.query.Role.TheVariants.{Optional}
+use Rattle.query_syntax.specs.Layout.{ListLayout, list_print, list_says, list_levels, AreItems}
+use Rattle.query_syntax.specs.Tree.{ClauseTree}
 
--- the clauses of a query that asks for one thing
-abbrev pub one_clause : WhatTree → List ClauseTree
-one_clause what = record { role = Optional; what = what } ∷ []
+-- how many parentheses may stand one in another
+abbrev pub level_limit : ℕ
+level_limit = 100
 
--- the bytes are a clause with blanks round it, and say these clauses
+-- the bytes are a list with blanks before it, and say these clauses
 pub record IsQuery (bytes : ByteList) (clauses : List ClauseTree) : Type 0 where
   pub before : ByteList
-  pub layout : Layout
-  pub behind : ByteList
+  pub layout : ListLayout
   pub blank_before : AreBlank before
-  pub allowed : IsClause layout
-  pub blank_behind : AreBlank behind
-  pub printed : bytes ≡ before ++ (layout_print layout ++ behind)
-  pub says : clauses ≡ one_clause (layout_says layout)
+  pub allowed : AreItems None layout
+  pub levels : list_levels layout ≤ level_limit
+  pub printed : bytes ≡ before ++ list_print layout
+  pub says : clauses ≡ list_says None false layout
 
 -- some query begins so
 abbrev pub GoesOn : ByteList → Type 0

@@ -1,79 +1,139 @@
--- How a clause is laid out, and what it says (Lucene's classic query syntax; a word behind a minus
--- is own).
-use Rattle.std.specs.Prelude.{List, [], ◌∷◌, ◌++◌, codes}
+-- How a list of clauses is laid out, and what it says (Lucene's classic query syntax; the roles are
+-- own).
+use Rattle.std.specs.Prelude.{ℕ, ◌+◌, max, List, [], ◌∷◌, ◌++◌, Bool, false, ◌||◌, Option, Some}
+use Rattle.std.specs.Prelude.{None, codes}
 use Rattle.tuple_values.specs.Document.{ByteList}
-use Rattle.query_syntax.specs.Letters.{AreBlank, is_quoted_byte, Letter, AreLetters}
-use Rattle.query_syntax.specs.Letters.{letters_print, letters_text}
-use Rattle.query_syntax.specs.Words.{IsWord, IsNumberWord, quoted_print}
-use Rattle.query_syntax.specs.Ranges.{RangeLayout, range_print, range_says, IsRange}
-use Rattle.query_syntax.specs.Tree.{WhatTree, everything, on_field}
-use Rattle.query_syntax.specs.declared.query.Test.{Test}
-use Rattle.query_syntax.specs.declared.query.Test.TheVariants.{Word, Prefix, Present}
+use Rattle.query_syntax.specs.Letters.{AreBlank, Letter, letters_print, letters_text}
+use Rattle.query_syntax.specs.Words.{IsWord}
+use Rattle.query_syntax.specs.Tests.{TestLayout, test_print, IsTest, test_says, IsUnsigned}
+use Rattle.query_syntax.specs.Tests.{TestEnds}
+use Rattle.query_syntax.specs.Joints.{Modifier, modifier_print, modifier_role, ModifierEnds}
+use Rattle.query_syntax.specs.Joints.{plain_role, JointLayout, joint_print, is_and_joint, IsJoint}
+use Rattle.query_syntax.specs.Tree.{WhatTree, everything, on_field, nested, ClauseTree, trees_of}
+use Rattle.query_syntax.specs.declared.query.Role.{Role}
 
--- a test: a word, a word and `*`, a minus and a word, quoted text, `*` or a range
-pub data TestLayout : Type 0 where
-  word : List Letter → TestLayout
-  prefix : List Letter → TestLayout
-  number : List Letter → TestLayout
-  quote : List Letter → TestLayout
-  star : TestLayout
-  range : RangeLayout → TestLayout
+mutual
+  -- a clause: `*:*`; a field, blanks and a test; in a field group a test alone; a list in
+  -- parentheses; or a field, blanks and a list in parentheses; each list has blanks before it
+  pub data ClauseLayout : Type 0 where
+    all_laid : ClauseLayout
+    field_laid : (name : List Letter) → (gap : ByteList) → TestLayout → ClauseLayout
+    test_laid : TestLayout → ClauseLayout
+    group_laid : (before : ByteList) → ListLayout → ClauseLayout
+    field_group_laid : (name : List Letter) → (gap before : ByteList) → ListLayout → ClauseLayout
 
--- its bytes
-abbrev pub test_print : TestLayout → ByteList
-test_print (word letters) = letters_print letters
-test_print (prefix letters) = letters_print letters ++ 42 ∷ []
-test_print (number letters) = 45 ∷ letters_print letters
-test_print (quote letters) = quoted_print letters
-test_print star = 42 ∷ []
-test_print (range r) = range_print r
+  -- an item of a list: a clause, or a modifier, blanks and a clause
+  pub data ItemLayout : Type 0 where
+    plain_laid : ClauseLayout → ItemLayout
+    modified_laid : Modifier → (gap : ByteList) → ClauseLayout → ItemLayout
 
--- its parts are allowed
-abbrev pub IsTest : TestLayout → Type 0
-IsTest (word letters) = IsWord letters
-IsTest (prefix letters) = IsWord letters
-IsTest (number letters) = IsNumberWord letters
-IsTest (quote letters) = AreLetters is_quoted_byte letters
-IsTest star = Unit {0}
-IsTest (range r) = IsRange r
+  -- a list: a last item with blanks behind it, or an item, what stands behind it, and more items
+  pub data ListLayout : Type 0 where
+    last_laid : ItemLayout → (behind : ByteList) → ListLayout
+    more_laid : ItemLayout → JointLayout → ListLayout → ListLayout
 
--- the test that it says
-abbrev pub test_says : TestLayout → Test
-test_says (word letters) = Word (letters_text letters)
-test_says (prefix letters) = Prefix (letters_text letters)
-test_says (number letters) = Word (45 ∷ letters_text letters)
-test_says (quote letters) = Word (letters_text letters)
-test_says star = Present
-test_says (range r) = range_says r
+-- their bytes
+abbrev mutual
+  pub clause_print : ClauseLayout → ByteList
+  clause_print all_laid = codes "*:*"
+  clause_print (field_laid name gap t) = letters_print name ++ 58 ∷ (gap ++ test_print t)
+  clause_print (test_laid t) = test_print t
+  clause_print (group_laid before list) = 40 ∷ (before ++ (list_print list ++ 41 ∷ []))
+  clause_print (field_group_laid name gap before list) =
+      letters_print name ++ 58 ∷ (gap ++ 40 ∷ (before ++ (list_print list ++ 41 ∷ [])))
 
--- a field with a test behind a colon and blanks
-pub record FieldLayout : Type 0 where
-  pub name : List Letter
-  pub gap : ByteList
-  pub test : TestLayout
+  pub item_print : ItemLayout → ByteList
+  item_print (plain_laid c) = clause_print c
+  item_print (modified_laid m gap c) = modifier_print m ++ (gap ++ clause_print c)
 
--- a clause: `*:*` asks for everything
-pub data Layout : Type 0 where
-  star_colon_star : Layout
-  field : FieldLayout → Layout
+  pub list_print : ListLayout → ByteList
+  list_print (last_laid i behind) = item_print i ++ behind
+  list_print (more_laid i j list) = item_print i ++ (joint_print j ++ list_print list)
 
--- its bytes
-abbrev pub layout_print : Layout → ByteList
-layout_print star_colon_star = codes "*:*"
-layout_print (field f) = letters_print f.name ++ 58 ∷ (f.gap ++ test_print f.test)
+-- the field of a test that stands without one: the innermost field group's
+abbrev pub group_field : Option ByteList → ByteList
+group_field None = []
+group_field (Some field) = field
 
--- the parts of a field with a test are allowed
-pub record IsFieldLayout (f : FieldLayout) : Type 0 where
-  pub name : IsWord f.name
-  pub gap : AreBlank f.gap
-  pub test : IsTest f.test
+-- the role of an item, which perhaps has an `AND` beside it
+abbrev pub item_role : Bool → ItemLayout → Role
+item_role beside (plain_laid c) = plain_role beside
+item_role beside (modified_laid m gap c) = modifier_role m
 
--- the parts of a clause are
-abbrev pub IsClause : Layout → Type 0
-IsClause star_colon_star = Unit {0}
-IsClause (field f) = IsFieldLayout f
+-- what they say in a field group, or outside of each: an `AND` before an item or behind it makes
+-- it required, unless it has a modifier
+abbrev mutual
+  pub clause_says : Option ByteList → ClauseLayout → WhatTree
+  clause_says field all_laid = everything
+  clause_says field (field_laid name gap t) = on_field (letters_text name) (test_says t)
+  clause_says field (test_laid t) = on_field (group_field field) (test_says t)
+  clause_says field (group_laid before list) = nested (trees_of (list_says field false list))
+  clause_says field (field_group_laid name gap before list) =
+      nested (trees_of (list_says (Some (letters_text name)) false list))
 
--- what it asks for
-abbrev pub layout_says : Layout → WhatTree
-layout_says star_colon_star = everything
-layout_says (field f) = on_field (letters_text f.name) (test_says f.test)
+  pub item_says : Option ByteList → ItemLayout → WhatTree
+  item_says field (plain_laid c) = clause_says field c
+  item_says field (modified_laid m gap c) = clause_says field c
+
+  pub list_says : Option ByteList → Bool → ListLayout → List ClauseTree
+  list_says field before (last_laid i behind) =
+      record { role = item_role before i; what = item_says field i } ∷ []
+  list_says field before (more_laid i j list) =
+      record { role = item_role (before || is_and_joint j) i; what = item_says field i }
+      ∷ list_says field (is_and_joint j) list
+
+-- how many parentheses stand one in another at the deepest place
+abbrev mutual
+  pub clause_levels : ClauseLayout → ℕ
+  clause_levels all_laid = 0
+  clause_levels (field_laid name gap t) = 0
+  clause_levels (test_laid t) = 0
+  clause_levels (group_laid before list) = list_levels list + 1
+  clause_levels (field_group_laid name gap before list) = list_levels list + 1
+
+  pub item_levels : ItemLayout → ℕ
+  item_levels (plain_laid c) = clause_levels c
+  item_levels (modified_laid m gap c) = clause_levels c
+
+  pub list_levels : ListLayout → ℕ
+  list_levels (last_laid i behind) = item_levels i
+  list_levels (more_laid i j list) = max (item_levels i) (list_levels list)
+
+-- there is a field group round it
+abbrev pub IsGrouped : Option ByteList → Type 0
+IsGrouped None = ⊥
+IsGrouped (Some field) = Unit {0}
+
+-- the bytes behind a clause don't continue it
+abbrev pub ClauseEnds : ClauseLayout → ByteList → Type 0
+ClauseEnds all_laid behind = Unit {0}
+ClauseEnds (field_laid name gap t) behind = TestEnds t behind
+ClauseEnds (test_laid t) behind = TestEnds t behind
+ClauseEnds (group_laid before list) behind = Unit {0}
+ClauseEnds (field_group_laid name gap before list) behind = Unit {0}
+
+-- nor do those behind an item
+abbrev pub ItemEnds : ItemLayout → ByteList → Type 0
+ItemEnds (plain_laid c) behind = ClauseEnds c behind
+ItemEnds (modified_laid m gap c) behind = ClauseEnds c behind
+
+-- their parts are allowed
+abbrev mutual
+  pub IsClause : Option ByteList → ClauseLayout → Type 0
+  IsClause field all_laid = Unit {0}
+  IsClause field (field_laid name gap t) = IsWord name × AreBlank gap × IsTest t
+  IsClause field (test_laid t) = IsGrouped field × IsTest t × IsUnsigned t
+  IsClause field (group_laid before list) = AreBlank before × AreItems field list
+  IsClause field (field_group_laid name gap before list) =
+      IsWord name × AreBlank gap × AreBlank before × AreItems (Some (letters_text name)) list
+
+  pub IsItem : Option ByteList → ItemLayout → Type 0
+  IsItem field (plain_laid c) = IsClause field c
+  IsItem field (modified_laid m gap c) =
+      AreBlank gap × IsClause field c × ModifierEnds m (gap ++ clause_print c)
+
+  pub AreItems : Option ByteList → ListLayout → Type 0
+  AreItems field (last_laid i behind) = IsItem field i × AreBlank behind
+  AreItems field (more_laid i j list) =
+      IsItem field i × ItemEnds i (joint_print j ++ list_print list) × IsJoint j (list_print list)
+      × AreItems field list

@@ -1,5 +1,5 @@
 -- Words and quoted texts (Lucene's classic query syntax; a word behind a minus is own).
-use Rattle.std.specs.Prelude.{◌≡◌, List, [], ◌∷◌, ◌++◌, true, false}
+use Rattle.std.specs.Prelude.{◌≡◌, ℕ, List, [], ◌∷◌, ◌++◌, Bool, true, false, ◌||◌, ◌==◌}
 use Rattle.tuple_values.specs.Document.{ByteList}
 use Rattle.query_syntax.specs.Letters.{is_sign, is_digit, is_word_byte, Letter, plain, escaped}
 use Rattle.query_syntax.specs.Letters.{letter_byte, AreLetters, letters_print, letters_text}
@@ -26,6 +26,15 @@ pub record IsWord (letters : List Letter) : Type 0 where
 pub record IsNumberWord (letters : List Letter) : Type 0 where
   pub are_letters : AreLetters is_word_byte letters
   pub begins : BeginsNumber letters
+
+-- a byte that goes on with a word: one of its bytes, or the backslash before one
+abbrev pub goes_on_word : ℕ → Bool
+goes_on_word b = b == 92 || is_word_byte b
+
+-- the bytes behind a word don't go on with it
+abbrev pub NoLetter : ByteList → Type 0
+NoLetter [] = Unit {0}
+NoLetter (b ∷ bytes) = goes_on_word b ≡ false
 
 -- the bytes of a quoted text
 abbrev pub quoted_print : List Letter → ByteList

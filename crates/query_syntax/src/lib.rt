@@ -3,8 +3,10 @@
 
 mod fault;
 mod letters;
+mod lists;
 mod machine;
 mod matching;
+mod open_lists;
 mod place;
 mod query;
 mod reader;

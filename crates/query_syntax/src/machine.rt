@@ -1,24 +1,24 @@
 // Reading a query, a character at a time.
-ghost use Rattle.std.specs.Prelude.{◌≡◌, [], ◌∷◌, true, false, ◌==◌, if◌then◌else◌, IfOk, OnOk};
-ghost use Rattle.std.specs.Prelude.{Some, None, encode_utf8, string_bytes, option_map};
-ghost use Rattle.query_syntax.specs.Tree.{on_field};
-ghost use Rattle.query_syntax.specs.declared.query.Test.TheVariants as test;
+ghost use Rattle.std.specs.Prelude.{◌≡◌, [], ◌∷◌, false, ◌==◌, if◌then◌else◌, IfOk, OnOk};
+ghost use Rattle.std.specs.Prelude.{Some, None, encode_utf8};
 ghost use Rattle.query_syntax.specs.declared.place.Side.TheVariants.{Low};
-ghost use Rattle.query_syntax.specs.declared.place.Place.TheVariants.{Start, Letters, Escape};
+ghost use Rattle.query_syntax.specs.declared.place.Kind.TheVariants.{Number, Bare};
+ghost use Rattle.query_syntax.specs.declared.place.Place.TheVariants.{Letters, Escape};
 ghost use Rattle.query_syntax.specs.declared.place.Place.TheVariants.{Minus, MinusEscape, Before};
 ghost use Rattle.query_syntax.specs.declared.place.Place.TheVariants.{Gap, To};
 
-use crate::letters::{is_blank, is_digit, is_operator, is_sign};
-use crate::place::{Kind, Place, Side};
+use crate::letters::{is_blank, is_digit, is_just, is_operator};
+use crate::place::{Kind, Place, Side, Stage};
 use crate::reading::Reading;
-use crate::{Test, What};
-use tuple_values::{Memory, Text};
+use crate::{Clauses, Test};
+use tuple_values::Memory;
 
 impl Reading {
-    ghost use Rattle.query_syntax.specs.Views.{what_tree};
     ghost use Rattle.query_syntax.specs.Machine.{machine};
-    ghost use Rattle.query_syntax.specs.Steps.{test_step, before_step, step_at, step, Moves};
-    ghost use Rattle.query_syntax.specs.Steps.{asks_at};
+    ghost use Rattle.query_syntax.specs.Steps.{end_step, step_at, step};
+    ghost use Rattle.query_syntax.specs.ItemSteps.{test_step, before_step};
+    ghost use Rattle.query_syntax.specs.Steps.{Moves};
+    ghost use Rattle.query_syntax.specs.Reading.{whole_at, asks};
 
     fn in_letters(&mut self, kind: Kind, c: char) -> Result<bool, Memory>
         ensures { IfOk result (λ live. Moves
@@ -29,7 +29,7 @@ impl Reading {
             self.letter(kind, c)?;
             return Ok(true);
         }
-        Ok(self.end(kind, c))
+        self.end(kind, c)
     }
 
     fn in_escape(&mut self, kind: Kind, c: char) -> Result<bool, Memory>
@@ -44,23 +44,6 @@ impl Reading {
         self.escapes = true;
         self.place = Place::Letters(kind);
         Ok(true)
-    }
-
-    fn at_start(&mut self, c: char) -> Result<bool, Memory>
-        ensures { IfOk result (λ live. Moves
-            (step_at Start (machine self.old) c (encode_utf8 c)) live (machine self.new)) }
-    {
-        if is_blank(c) {
-            return Ok(true);
-        }
-        if c == '*' {
-            self.place = Place::Star;
-            return Ok(true);
-        }
-        if is_sign(c) {
-            return Ok(false);
-        }
-        self.begin(Kind::Name, c)
     }
 
     fn begin_range(&mut self, low_in: bool)
@@ -83,16 +66,18 @@ impl Reading {
     }
 
     // Behind the colon.
-    fn at_test(&mut self, c: char) -> Result<bool, Memory>
+    #[tactic(auto, unfolding(crate::specs::ItemSteps::test_step))]
+    pub fn at_test(&mut self, c: char) -> Result<bool, Memory>
         ensures { IfOk result (λ live. Moves
             (test_step (machine self.old) c (encode_utf8 c)) live (machine self.new)) }
     {
         if is_blank(c) {
+            self.place = Place::Tested;
             return Ok(true);
         }
         match c {
             '*' => {
-                self.end_test(Test::Present);
+                self.end_test(Test::Present)?;
                 Ok(true)
             }
             '"' => {
@@ -111,6 +96,7 @@ impl Reading {
                 self.begin_number()?;
                 Ok(true)
             }
+            '(' => self.open_group(),
             '+' => Ok(false),
             _ => self.begin(Kind::Word, c),
         }
@@ -185,59 +171,108 @@ impl Reading {
         false
     }
 
+    // Behind the letters of a bound without quotes.
+    fn end_bound_letters(&mut self, side: Side, c: char) -> Result<bool, Memory>
+        ensures { IfOk result (λ live. Moves
+            (end_step (Bare side) (machine self.old) c (encode_utf8 c)) live
+            (machine self.new)) }
+    {
+        if is_just("TO", self.escapes, self.text.as_str()) {
+            return Ok(false);
+        }
+        let bound = self.bare_bound();
+        self.end_bound(side, bound);
+        self.closed(side, c)
+    }
+
+    // Behind the letters of a number.
+    fn end_number(&mut self, c: char) -> Result<bool, Memory>
+        ensures { IfOk result (λ live. Moves
+            (end_step Number (machine self.old) c (encode_utf8 c)) live (machine self.new)) }
+    {
+        let text = self.take_text();
+        self.end_test(Test::Word(text))?;
+        self.item(Stage::Behind, c)
+    }
+
+    // Behind letters.
+    fn end(&mut self, kind: Kind, c: char) -> Result<bool, Memory>
+        ensures { IfOk result (λ live. Moves
+            (end_step kind (machine self.old) c (encode_utf8 c)) live (machine self.new)) }
+    {
+        match kind {
+            Kind::Name(stage) => self.after_name(stage, c),
+            Kind::Word => {
+                if is_operator(self.escapes, self.text.as_str()) {
+                    return Ok(false);
+                }
+                self.end_word(c)
+            }
+            Kind::Number => self.end_number(c),
+            Kind::Quote => {
+                if c == '"' {
+                    let text = self.take_text();
+                    self.end_test(Test::Word(text))?;
+                    return Ok(true);
+                }
+                Ok(false)
+            }
+            Kind::Bare(side) => self.end_bound_letters(side, c),
+            Kind::Quoted(side) => {
+                if c == '"' {
+                    let text = self.take_text();
+                    self.end_bound(side, Some(text));
+                    return Ok(true);
+                }
+                Ok(false)
+            }
+        }
+    }
+
     /// Takes one more character. False: no query goes on so.
     pub fn step(&mut self, c: char) -> Result<bool, Memory>
         ensures { IfOk result (λ live. Moves
             (step (machine self.old) c (encode_utf8 c)) live (machine self.new)) }
     {
         match self.place {
-            Place::Start => self.at_start(c),
-            Place::Star => Ok(self.accept(':', c, Place::Colon)),
-            Place::Colon => Ok(self.accept('*', c, Place::All)),
-            Place::All | Place::Behind => Ok(is_blank(c)),
+            Place::Item(stage) => self.item(stage, c),
+            Place::Star => self.after_star(c),
+            Place::Colon => self.after_colon(c),
             Place::Letters(kind) => self.in_letters(kind, c),
             Place::Escape(kind) => self.in_escape(kind, c),
             Place::Tested => self.at_test(c),
             Place::Minus => self.after_minus(c),
             Place::MinusEscape => self.digit(c),
             Place::Before(side) => self.before_bound(side, c),
-            Place::Closed(side) => Ok(self.closed(side, c)),
+            Place::Closed(side) => self.closed(side, c),
             Place::Gap => Ok(self.in_gap(c)),
             Place::T => Ok(self.accept('O', c, Place::To)),
             Place::To => Ok(self.after_to(c)),
         }
     }
 
-    // A field with a test that is a word.
-    fn word(self) -> What
-        ensures { what_tree result ≡ on_field (string_bytes self.name)
-            (test.Word (string_bytes self.text)) }
+    // The clauses that are read, if the last item is whole and each list is closed.
+    fn whole(self) -> Option<Clauses>
+        ensures { result ≡ whole_at (machine self).place (machine self) }
     {
-        let test = Test::Word(Text::from_string(self.text));
-        What::Field {
-            name: Text::from_string(self.name),
-            test,
+        match self.place {
+            Place::Item(Stage::Behind) => {
+                if self.outer.count() > 0 {
+                    return None;
+                }
+                Some(self.clauses)
+            }
+            _ => None,
         }
     }
 
-    /// What the text asks for, if it may end here.
-    pub fn finish(self) -> Option<What>
-        ensures { option_map what_tree result ≡ asks_at (machine self).place (machine self) }
+    /// The clauses of the text, if it may end here.
+    pub fn finish(mut self) -> Result<Option<Clauses>, Memory>
+        ensures { IfOk result (λ clauses. clauses ≡ asks (Some (machine self))) }
     {
-        match self.place {
-            Place::All => Some(What::Everything),
-            Place::Letters(Kind::Word) => {
-                if is_operator(self.escapes, self.text.as_str()) {
-                    return None;
-                }
-                Some(self.word())
-            }
-            Place::Letters(Kind::Number) => Some(self.word()),
-            Place::Behind => Some(What::Field {
-                name: Text::from_string(self.name),
-                test: self.test,
-            }),
-            _ => None,
+        if !self.step(' ')? {
+            return Ok(None);
         }
+        Ok(self.whole())
     }
 }

@@ -10,11 +10,24 @@ pub enum Side {
     High,
 }
 
+/// What of a list was read last.
+#[derive(Clone, Copy)]
+pub enum Stage {
+    /// Nothing: the list begins.
+    First,
+    /// An item.
+    Behind,
+    /// A conjunction.
+    Joined,
+    /// What requires or prohibits the next item.
+    Modified,
+}
+
 /// What letters are read for.
 #[derive(Clone, Copy)]
 pub enum Kind {
-    /// The name of a field.
-    Name,
+    /// An operator, the name of a field, or a test without a field.
+    Name(Stage),
     /// A test that is a word.
     Word,
     /// A word behind a minus.
@@ -34,7 +47,7 @@ impl Kind {
         ensures { result ≡ is_letter self c }
     {
         match self {
-            Kind::Name | Kind::Word | Kind::Number => is_word_letter(c),
+            Kind::Name(_) | Kind::Word | Kind::Number => is_word_letter(c),
             Kind::Quote | Kind::Quoted(_) => is_quoted_letter(c),
             Kind::Bare(_) => is_bound_letter(c),
         }
@@ -51,14 +64,12 @@ impl Kind {
 /// What was read last.
 #[derive(Clone, Copy)]
 pub enum Place {
-    /// Blanks, perhaps none.
-    Start,
-    /// The first star of `*:*`.
+    /// What stands before an item or behind one, and perhaps blanks behind that.
+    Item(Stage),
+    /// The first star of `*:*`, or a test without a field.
     Star,
-    /// Its colon.
+    /// The colon of `*:*`.
     Colon,
-    /// All of it, and perhaps blanks behind it.
-    All,
     /// Letters, or the quote before them.
     Letters(Kind),
     /// The backslash before a letter.
@@ -79,6 +90,4 @@ pub enum Place {
     T,
     /// Its second letter.
     To,
-    /// A whole test, and perhaps blanks behind it.
-    Behind,
 }

@@ -3,6 +3,7 @@ ghost use Rattle.std.specs.Prelude.{◌≡◌, ◌<◌, ◌++◌, ◌∷◌, [],
 ghost use Rattle.std.specs.Prelude.{slice_index_or};
 ghost use Rattle.query_syntax.specs.Tree.{what_depth, clauses_depth};
 ghost use Rattle.query_syntax.specs.Views.{clause_tree};
+ghost use Rattle.query_syntax.specs.Items.{require_last};
 
 use std::alloc::Global;
 use std::marker::Model;
@@ -17,6 +18,20 @@ pub enum Role {
     Prohibited,
     /// Where no clause is required, the list matches only where some optional one does.
     Optional,
+}
+
+impl Role {
+    ghost use Rattle.query_syntax.specs.Items.{role_beside};
+
+    // The role of a clause that has an `AND` beside it.
+    fn beside(self) -> Role
+        ensures { result ≡ role_beside self }
+    {
+        match self {
+            Role::Required | Role::Optional => Role::Required,
+            Role::Prohibited => Role::Prohibited,
+        }
+    }
 }
 
 /// What is asked of the value of a field.
@@ -125,10 +140,23 @@ impl Clauses {
     }
 }
 
-fn copy_bound(bound: &Option<Text>, alloc: Global) -> Result<Option<Text>, Memory>
-    ensures { IfOk result (λ copy. copy ≡ bound.now) }
+/// The last clause has an `AND` beside it.
+pub fn require_last(clauses: &mut Clauses) -> Result<(), Memory>
+    ensures { OnOk result (clauses.new ≡ require_last clauses.old) }
 {
-    match bound {
+    if let Some(clause) = clauses.items.pop() {
+        let role = clause.role.beside();
+        let what = clause.what;
+        clauses.items.push(Clause { role, what })?;
+    }
+    Ok(())
+}
+
+/// The same text, or none.
+pub fn copy_option(text: &Option<Text>, alloc: Global) -> Result<Option<Text>, Memory>
+    ensures { IfOk result (λ copy. copy ≡ text.now) }
+{
+    match text {
         None => Ok(None),
         Some(text) => Ok(Some(text.copy(alloc)?)),
     }
@@ -146,8 +174,8 @@ impl TryCopy for Test {
                 high,
                 high_in,
             } => {
-                let low = copy_bound(low, alloc)?;
-                let high = copy_bound(high, alloc)?;
+                let low = copy_option(low, alloc)?;
+                let high = copy_option(high, alloc)?;
                 Ok(Test::Range {
                     low,
                     low_in: *low_in,

@@ -2,9 +2,8 @@
 ghost use Rattle.std.specs.Prelude.{◌≡◌, ◌↔◌, IfOk, IfErr, OnOk, Some, List};
 ghost use Rattle.tuple_values.specs.Document.{ByteList, Doc};
 ghost use Rattle.query_syntax.specs.Tree.{ClauseTree};
-ghost use Rattle.query_syntax.specs.Views.{what_tree};
 ghost use Rattle.query_syntax.specs.Agreement.{Agrees};
-ghost use Rattle.query_syntax.specs.Grammar.{IsQuery, IsPlace, one_clause};
+ghost use Rattle.query_syntax.specs.Grammar.{IsQuery, IsPlace};
 ghost use Rattle.query_syntax.specs.Machine.{machine, start};
 ghost use Rattle.query_syntax.specs.Reading.{query_of, read_of, Ends, EndsIn};
 ghost use Rattle.query_syntax.specs.Meaning.{IsReadable, text_matches};
@@ -12,19 +11,9 @@ ghost use Rattle.query_syntax.specs.Matching.{matches};
 ghost use Rattle.query_syntax.specs.Fault.{IfPlaced, Answers, Reads};
 
 use crate::reading::Reading;
-use crate::{Clause, Clauses, Query, QueryFault, Role, What};
+use crate::{Query, QueryFault};
 use std::alloc::Global;
 use tuple_values::Memory;
-
-// The query of one clause.
-fn asking(alloc: Global, what: What) -> Result<Query, Memory>
-    ensures { IfOk result (λ query. query.clauses ≡ one_clause (what_tree what)) }
-{
-    let mut clauses = Clauses::new(alloc);
-    let role = Role::Optional;
-    clauses.push(Clause { role, what })?;
-    Ok(Query { clauses })
-}
 
 // Runs over a text, up to the place of the first character with which no query goes on.
 fn run(reading: &mut Reading, text: &str) -> Result<Option<u64>, Memory>
@@ -50,16 +39,16 @@ fn read(alloc: Global, text: &str) -> Result<Query, QueryFault>
     if let Some(at) = run(&mut reading, text)? {
         return Err(QueryFault::BadQuery { at });
     }
-    match reading.finish() {
-        Some(what) => Ok(asking(alloc, what)?),
+    match reading.finish()? {
+        Some(clauses) => Ok(Query { clauses }),
         None => Err(QueryFault::BadQuery {
             at: text.len() as u64,
         }),
     }
 }
 
-/// Reads a query (Lucene's classic query syntax). Today a text is one clause with blanks round it:
-/// `*:*`, or a field with a test. A place is the length of the longest front with which some query
+/// Reads a query (Lucene's classic query syntax): a list of clauses, in which lists may stand in
+/// parentheses to 100 levels. A place is the length of the longest front with which some query
 /// begins, in bytes: the place of the first byte that no continuation repairs.
 pub fn read_query(alloc: Global, text: &str) -> Result<Query, QueryFault>
     // What is read is what the text says, and it says nothing else.

@@ -1,35 +1,41 @@
-// What was read of a query, and how the parts of it end.
-ghost use Rattle.std.specs.Prelude.{◌≡◌, [], false, IfOk, encode_utf8, string_bytes};
-ghost use Rattle.query_syntax.specs.declared.place.Kind.TheVariants.{Word, Bare};
+// What was read of a query, and how the letters, bounds and items of it begin and end.
+ghost use Rattle.std.specs.Prelude.{◌≡◌, [], false, IfOk, OnOk, encode_utf8, string_bytes};
 ghost use Rattle.query_syntax.specs.declared.place.Place.TheVariants.{Letters};
+ghost use Rattle.query_syntax.specs.declared.place.Side.TheVariants.{High};
 
-use crate::Test;
-use crate::letters::{is_blank, is_just, is_operator};
-use crate::place::{Kind, Place, Side};
+use crate::letters::{is_blank, is_just};
+use crate::open_lists::OpenLists;
+use crate::place::{Kind, Place, Side, Stage};
+use crate::{Clause, Clauses, Role, Test, What};
 use std::alloc::Global;
 use std::mem;
 use tuple_values::{Memory, Text};
 
-/// A query as far as it is read: the name of the field, the letters that are being read and
-/// whether some of them was escaped, the bounds, and the test.
+/// A query as far as it is read. Of the item that is being read: its role so far, the name of its
+/// field, its letters and whether some of them was escaped, and its bounds. Of the innermost list:
+/// the field of the group that it is in, if any, and its clauses; and the lists round it.
 #[derive(Drop)]
 pub struct Reading {
     pub alloc: Global,
     pub place: Place,
-    pub name: String,
+    pub role: Role,
+    pub name: Text,
     pub text: String,
     pub escapes: bool,
     pub low_in: bool,
     pub low: Option<Text>,
     pub high: Option<Text>,
-    pub test: Test,
+    pub field: Option<Text>,
+    pub clauses: Clauses,
+    pub outer: OpenLists,
 }
 
 impl Reading {
     ghost use Rattle.query_syntax.specs.Ranges.{bare_says};
-    ghost use Rattle.query_syntax.specs.Machine.{machine, start, letter_step, begin, end_name};
-    ghost use Rattle.query_syntax.specs.Machine.{end_test, end_bound, end_range, closed_step};
-    ghost use Rattle.query_syntax.specs.Machine.{end_step};
+    ghost use Rattle.query_syntax.specs.Views.{what_tree};
+    ghost use Rattle.query_syntax.specs.Machine.{machine, start, ready, letter_step, begin};
+    ghost use Rattle.query_syntax.specs.Items.{end_name, end_item, end_test, end_bound};
+    ghost use Rattle.query_syntax.specs.Items.{end_range, closed_step};
     ghost use Rattle.query_syntax.specs.Steps.{Moves};
 
     /// Nothing is read yet.
@@ -38,15 +44,33 @@ impl Reading {
     {
         Reading {
             alloc,
-            place: Place::Start,
-            name: String::new(alloc),
+            place: Place::Item(Stage::First),
+            role: Role::Optional,
+            name: Text::from_string(String::new(alloc)),
             text: String::new(alloc),
             escapes: false,
             low_in: false,
             low: None,
             high: None,
-            test: Test::Present,
+            field: None,
+            clauses: Clauses::new(alloc),
+            outer: OpenLists::new(alloc),
         }
+    }
+
+    /// Nothing of an item is read.
+    pub fn clear(&mut self, stage: Stage, role: Role)
+        ensures { machine self.new ≡ ready stage role (machine self.old).field
+            (machine self.old).clauses (machine self.old).outer }
+    {
+        self.place = Place::Item(stage);
+        self.role = role;
+        self.name = Text::from_string(String::new(self.alloc));
+        self.text.clear();
+        self.escapes = false;
+        self.low_in = false;
+        self.low = None;
+        self.high = None;
     }
 
     // The letters, which are moved out.
@@ -55,6 +79,14 @@ impl Reading {
         ensures rest { machine self.new ≡ record (machine self.old) { text = [] } }
     {
         Text::from_string(mem::replace(&mut self.text, String::new(self.alloc)))
+    }
+
+    // The name, which is moved out.
+    pub fn take_name(&mut self) -> Text
+        ensures name { result ≡ self.old.name }
+        ensures rest { machine self.new ≡ record (machine self.old) { name = [] } }
+    {
+        mem::replace(&mut self.name, Text::from_string(String::new(self.alloc)))
     }
 
     pub fn letter(&mut self, kind: Kind, c: char) -> Result<(), Memory>
@@ -97,18 +129,25 @@ impl Reading {
     pub fn end_name(&mut self)
         ensures { machine self.new ≡ end_name (machine self.old) }
     {
-        self.name = mem::replace(&mut self.text, String::new(self.alloc));
+        self.name = self.take_text();
         self.escapes = false;
         self.place = Place::Tested;
     }
 
-    pub fn end_test(&mut self, test: Test)
-        ensures { machine self.new ≡ end_test test (machine self.old) }
+    pub fn end_item(&mut self, what: What) -> Result<(), Memory>
+        ensures { OnOk result (machine self.new ≡ end_item (what_tree what) (machine self.old)) }
     {
-        self.text.clear();
-        self.escapes = false;
-        self.test = test;
-        self.place = Place::Behind;
+        let role = self.role;
+        self.clauses.push(Clause { role, what })?;
+        self.clear(Stage::Behind, Role::Optional);
+        Ok(())
+    }
+
+    pub fn end_test(&mut self, test: Test) -> Result<(), Memory>
+        ensures { OnOk result (machine self.new ≡ end_test test (machine self.old)) }
+    {
+        let name = self.take_name();
+        self.end_item(What::Field { name, test })
     }
 
     pub fn end_bound(&mut self, side: Side, bound: Option<Text>)
@@ -123,8 +162,8 @@ impl Reading {
         self.place = Place::Closed(side);
     }
 
-    pub fn end_range(&mut self, high_in: bool)
-        ensures { machine self.new ≡ end_range high_in (machine self.old) }
+    pub fn end_range(&mut self, high_in: bool) -> Result<(), Memory>
+        ensures { OnOk result (machine self.new ≡ end_range high_in (machine self.old)) }
     {
         let low = self.low.take();
         let high = self.high.take();
@@ -134,35 +173,42 @@ impl Reading {
             low_in,
             high,
             high_in,
-        });
+        })
+    }
+
+    // Behind an upper bound.
+    fn closed_high(&mut self, c: char) -> Result<bool, Memory>
+        ensures { IfOk result (λ live. Moves
+            (closed_step High (machine self.old) c) live (machine self.new)) }
+    {
+        if is_blank(c) {
+            return Ok(true);
+        }
+        if c == ']' {
+            self.end_range(true)?;
+            return Ok(true);
+        }
+        if c == '}' {
+            self.end_range(false)?;
+            return Ok(true);
+        }
+        Ok(false)
     }
 
     // Behind a bound.
-    pub fn closed(&mut self, side: Side, c: char) -> bool
-        ensures { Moves (closed_step side (machine self.old) c) result (machine self.new) }
+    pub fn closed(&mut self, side: Side, c: char) -> Result<bool, Memory>
+        ensures { IfOk result (λ live. Moves
+            (closed_step side (machine self.old) c) live (machine self.new)) }
     {
         match side {
             Side::Low => {
                 if is_blank(c) {
                     self.place = Place::Gap;
-                    return true;
+                    return Ok(true);
                 }
-                false
+                Ok(false)
             }
-            Side::High => {
-                if is_blank(c) {
-                    return true;
-                }
-                if c == ']' {
-                    self.end_range(true);
-                    return true;
-                }
-                if c == '}' {
-                    self.end_range(false);
-                    return true;
-                }
-                false
-            }
+            Side::High => self.closed_high(c),
         }
     }
 
@@ -176,78 +222,5 @@ impl Reading {
             return None;
         }
         Some(self.take_text())
-    }
-
-    // Behind the letters of a word.
-    pub fn end_word(&mut self, c: char) -> bool
-        ensures { Moves (end_step Word (machine self.old) c) result (machine self.new) }
-    {
-        if is_operator(self.escapes, self.text.as_str()) {
-            return false;
-        }
-        if c == '*' {
-            let text = self.take_text();
-            self.end_test(Test::Prefix(text));
-            return true;
-        }
-        if is_blank(c) {
-            let text = self.take_text();
-            self.end_test(Test::Word(text));
-            return true;
-        }
-        false
-    }
-
-    // Behind the letters of a bound without quotes.
-    pub fn end_bare(&mut self, side: Side, c: char) -> bool
-        ensures { Moves (end_step (Bare side) (machine self.old) c) result (machine self.new) }
-    {
-        if is_just("TO", self.escapes, self.text.as_str()) {
-            return false;
-        }
-        let bound = self.bare_bound();
-        self.end_bound(side, bound);
-        self.closed(side, c)
-    }
-
-    // Behind letters.
-    pub fn end(&mut self, kind: Kind, c: char) -> bool
-        ensures { Moves (end_step kind (machine self.old) c) result (machine self.new) }
-    {
-        match kind {
-            Kind::Name => {
-                if c == ':' && !is_operator(self.escapes, self.text.as_str()) {
-                    self.end_name();
-                    return true;
-                }
-                false
-            }
-            Kind::Word => self.end_word(c),
-            Kind::Number => {
-                if is_blank(c) {
-                    let text = self.take_text();
-                    self.end_test(Test::Word(text));
-                    return true;
-                }
-                false
-            }
-            Kind::Quote => {
-                if c == '"' {
-                    let text = self.take_text();
-                    self.end_test(Test::Word(text));
-                    return true;
-                }
-                false
-            }
-            Kind::Bare(side) => self.end_bare(side, c),
-            Kind::Quoted(side) => {
-                if c == '"' {
-                    let text = self.take_text();
-                    self.end_bound(side, Some(text));
-                    return true;
-                }
-                false
-            }
-        }
     }
 }

@@ -3,6 +3,7 @@ use Rattle.query_syntax.specs.Views.{clause_tree}
 use Rattle.query_syntax.proofs.ClauseLemmas.{some_clause-here, some_clause-behind, agrees-found}
 use Rattle.query_syntax.proofs.ClauseLemmas.{agrees-missed}
 use Rattle.query_syntax.proofs.query.+matching.Goals as goal
+use Rattle.query_syntax.proofs.query.+matching.Goals.{}
 use Rattle.query_syntax.proofs.query.+matching.Goals.{Clauses::some-else-is-via-then-is+else-matches-hit}
 use Rattle.query_syntax.proofs.query.+matching.Goals.{Clauses::some-else-is-via-else-is}
 

@@ -1,4 +1,4 @@
-use Rattle.std.proofs.Common.{refl, sym}
+use Rattle.std.proofs.Common.{refl, sym, ◌∙◌}
 use Rattle.query_syntax.specs.Machine.{machine}
 use Rattle.query_syntax.specs.Reading.{at_the_end}
 use Rattle.query_syntax.proofs.ReadLemmas.{sticks_none}
@@ -12,4 +12,4 @@ returns-in-Some-clause-computed c =
 pub returns-in-None-clause-place : goal.returns-in-None-clause-place
 returns-in-None-clause-place c =
     let ended = rw c.in_default.is at c.in_ok-at.ensures in
-    at_the_end (machine c.run.new.reading) refl ended (sym c.in-None.ensures)
+    at_the_end (machine c.run.new.reading) refl ended (sym c.in_ok-clauses.ensures ∙ c.in-None.is)
