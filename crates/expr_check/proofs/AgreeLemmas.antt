@@ -58,13 +58,13 @@ agree_by [] a b e = tt
 agree_by (t ∷ ts) a b e = (refl, e.0, agree_by ts a b e.1)
 
 -- what is equal is equal
-equal_of : (o : Ordering) → is_eq o ≡ true → o ≡ Equal
+pub equal_of : (o : Ordering) → is_eq o ≡ true → o ≡ Equal
 equal_of Less e = absurd (cc)
 equal_of Equal e = refl
 equal_of Greater e = absurd (cc)
 
 -- values that may be absent and compare equal are the same
-option_same : (a b : Option Datum) → option_cmp datum_cmp a b ≡ Equal → a ≡ b
+pub option_same : (a b : Option Datum) → option_cmp datum_cmp a b ≡ Equal → a ≡ b
 option_same None None e = refl
 option_same None (Some y) e = absurd (cc)
 option_same (Some x) None e = absurd (cc)

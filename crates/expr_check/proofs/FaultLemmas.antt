@@ -55,9 +55,10 @@ names_met function names order e =
     met_by function (names_text names) (meets_names names order) order e
 
 -- by a sort
-pub sort_met : (on : List SortTerm) (order : Order) → sort_fault on order ≡ None
-    → meets_sort on order ≡ true
-sort_met on order e = met_by _ (sort_text on) (meets_sort on order) order e
+pub sort_met : (function : ByteList) (on : List SortTerm) (order : Order)
+    → sort_fault function on order ≡ None → meets_sort on order ≡ true
+sort_met function on order e =
+    met_by function (sort_text on) (meets_sort on order) order e
 
 -- the fields of a search's sort are in `fl`
 fields_met_by : (fl : List ByteList) (term : SortTerm) (terms : List SortTerm) (named : Bool)

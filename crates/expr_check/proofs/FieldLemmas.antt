@@ -3,20 +3,23 @@ use Rattle.std.proofs.Common.{◌≡◌, ℕ, List, [], ◌∷◌, ◌++◌, Boo
 use Rattle.std.proofs.Common.{take, map, fold, filter, if◌then◌else◌}
 use Rattle.std.proofs.Common.{refl, sym, ◌∙◌, ap, codes}
 use Rattle.std.specs.Prelude.{bytes_eq, flat_map}
-use Rattle.std.specs.List.{AllByRecursion, filter_map}
+use Rattle.std.specs.List.{AllByRecursion, filter_map, list_any}
 use Rattle.tuple_values.specs.Document.{ByteList, Doc, group, rows_of, value_at, is_named, over}
 use Rattle.tuple_values.proofs.MapLemmas.{value_cut_other}
 use Rattle.sort_spec.specs.Texts.{once}
 use Rattle.sort_spec.specs.Sorting.{ins_sort}
 use Rattle.sort_spec.specs.Terms.{less}
 use Rattle.sort_spec.proofs.SortLemmas.{each_append, each_weaker, ins_each}
+use Rattle.sort_spec.specs.declared.pair.OnPair.{OnPair}
 use Rattle.sort_spec.specs.declared.term.SortTerm.{SortTerm}
 use Rattle.expr_types.specs.Conditions.{holds}
 use Rattle.expr_types.specs.ExprTree.{Operator, search, tuple, select, having, sort, top, unique}
 use Rattle.expr_types.specs.ExprTree.{merge, reduce, rollup, inner_join, left_outer_join, intersect}
 use Rattle.expr_types.specs.ExprTree.{complement, hash_join, outer_hash_join, in_parallel, topic}
-use Rattle.expr_types.specs.ExprTree.{update, commit, daemon, first_or, SearchParts}
+use Rattle.expr_types.specs.ExprTree.{update, commit, daemon, first_or, second_or, SearchParts}
 use Rattle.expr_types.specs.ExprTree.{ExprTree, node, ExprTrees, no_exprs, an_expr}
+use Rattle.expr_types.specs.Joins.{join_list, outer_join_list, joined, matches, is_kept}
+use Rattle.expr_types.proofs.JoinLemmas.{value_joined}
 use Rattle.expr_types.specs.Groups.{same_key, firsts, groups, with_group, reduced, reduce_list}
 use Rattle.expr_types.specs.Groups.{metric_name, metric_of, with_number, key_of, rolled}
 use Rattle.expr_types.specs.Groups.{rollup_list}
@@ -38,6 +41,7 @@ use Rattle.expr_check.proofs.AgreeLemmas.{past_other, value_put-other}
 use Rattle.expr_check.proofs.AscendLemmas.{each_filter, each_take, each_firsts}
 use Rattle.expr_check.proofs.ChosenLemmas.{changes-untouched, choices-untouched}
 use Rattle.expr_check.proofs.KeyLemmas.{number_keeps}
+use Rattle.expr_check.proofs.PairLemmas.{pairs_each}
 use Rattle.expr_check.proofs.WalkLemmas.{once-fold}
 
 -- a name is in two lists joined where it is in one of them
@@ -164,6 +168,14 @@ first_within [] (l ∷ ls) a = absurd a
 first_within (n ∷ ns) [] a = absurd a
 first_within (n ∷ ns) (l ∷ ls) a = a.0
 
+-- and the second
+pub second_within : (names : List (List ByteList)) (lists : List (List Doc)) → AreWithin names lists
+    → HaveOnly (second_or [] names) (second_or [] lists)
+second_within [] [] a = tt
+second_within [] (l ∷ ls) a = absurd a
+second_within (n ∷ ns) [] a = absurd a
+second_within (n ∷ ns) (l ∷ ls) a = first_within ns ls a.1
+
 -- and all of them together
 joined_within : (names : List (List ByteList)) (lists : List (List Doc)) → AreWithin names lists
     → HaveOnly (flat_map (λ n. n) names) (flat_map (λ l. l) lists)
@@ -192,6 +204,55 @@ merge_within terms names lists a =
     sort_within (all_names names) terms docs
     (wider joined (all_names names) (λ name e. outside_once name joined e) docs
     (joined_within names lists a))
+
+-- a name outside all lists is outside the first
+outside_front : (name : ByteList) (names : List (List ByteList))
+    → is_named name (flat_map (λ n. n) names) ≡ false → is_named name (first_or [] names) ≡ false
+outside_front name [] e = refl
+outside_front name (n ∷ ns) e = outside_first name n (flat_map (λ m. m) ns) e
+
+-- and outside the second
+outside_next : (name : ByteList) (names : List (List ByteList))
+    → is_named name (flat_map (λ n. n) names) ≡ false → is_named name (second_or [] names) ≡ false
+outside_next name [] e = refl
+outside_next name (n ∷ ns) e =
+    outside_front name ns (outside_second name n (flat_map (λ m. m) ns) e)
+
+-- what is joined has no field outside those of both
+pair_within : (names : List (List ByteList)) (left right : Doc) → HasOnly (first_or [] names) left
+    → HasOnly (second_or [] names) right → HasOnly (all_names names) (joined left right)
+pair_within names left right l r = λ name e.
+    let out = outside_once name (flat_map (λ n. n) names) e in
+    let lacks = l name (outside_front name names out) in
+    let other = r name (outside_next name names out) in
+    value_joined name left right ∙ rw (lacks, other) refl
+
+-- a left document alone has no field outside them either
+alone_within : (names : List (List ByteList)) (left : Doc) → HasOnly (first_or [] names) left
+    → HasOnly (all_names names) left
+alone_within names left l = λ name e.
+    l name (outside_front name names (outside_once name (flat_map (λ n. n) names) e))
+
+-- so has nothing that a join gives
+inner_within : (on : List OnPair) (names : List (List ByteList)) (lists : List (List Doc))
+    → AreWithin names lists
+    → HaveOnly (all_names names) (join_list on (first_or [] lists) (second_or [] lists))
+inner_within on names lists a =
+    pairs_each (λ left. []) (matches on) joined (HasOnly (second_or [] names))
+    (HasOnly (first_or [] names)) (HasOnly (all_names names)) (λ left l. tt)
+    (λ left right l r. pair_within names left right l r) (first_or [] lists) (second_or [] lists)
+    (first_within names lists a) (second_within names lists a)
+
+-- nor that an outer join gives
+outer_within : (on : List OnPair) (names : List (List ByteList)) (lists : List (List Doc))
+    → AreWithin names lists
+    → HaveOnly (all_names names) (outer_join_list on (first_or [] lists) (second_or [] lists))
+outer_within on names lists a =
+    pairs_each (λ left. left ∷ []) (matches on) joined (HasOnly (second_or [] names))
+    (HasOnly (first_or [] names)) (HasOnly (all_names names))
+    (λ left l. (alone_within names left l, tt))
+    (λ left right l r. pair_within names left right l r) (first_or [] lists) (second_or [] lists)
+    (first_within names lists a) (second_within names lists a)
 
 -- so has each group of documents
 groups_within : (names : List ByteList) (same : Doc → Doc → Bool) (docs : List Doc)
@@ -272,12 +333,18 @@ given_within docs (reduce by op) names lists a =
     reduce_within (first_or [] names) by op (first_or [] lists) (first_within names lists a)
 given_within docs (rollup key metrics) names lists a =
     rollup_within key metrics (first_or [] lists)
-given_within docs (inner_join on) names lists a = tt
-given_within docs (left_outer_join on) names lists a = tt
-given_within docs (intersect on) names lists a = tt
-given_within docs (complement on) names lists a = tt
-given_within docs (hash_join on) names lists a = tt
-given_within docs (outer_hash_join on) names lists a = tt
+given_within docs (inner_join on) names lists a = inner_within on names lists a
+given_within docs (left_outer_join on) names lists a = outer_within on names lists a
+given_within docs (intersect on) names lists a =
+    each_filter (HasOnly (first_or [] names))
+    (λ left. is_kept true (list_any (matches on left) (second_or [] lists))) (first_or [] lists)
+    (first_within names lists a)
+given_within docs (complement on) names lists a =
+    each_filter (HasOnly (first_or [] names))
+    (λ left. is_kept false (list_any (matches on left) (second_or [] lists))) (first_or [] lists)
+    (first_within names lists a)
+given_within docs (hash_join on) names lists a = inner_within on names lists a
+given_within docs (outer_hash_join on) names lists a = outer_within on names lists a
 given_within docs (in_parallel collection workers by) names lists a = tt
 given_within docs (topic p) names lists a = tt
 given_within docs (update dest size) names lists a = tt

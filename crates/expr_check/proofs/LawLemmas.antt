@@ -11,14 +11,16 @@ use Rattle.sort_spec.specs.Sorting.{ins_sort, IsAscending}
 use Rattle.sort_spec.specs.Terms.{less}
 use Rattle.sort_spec.proofs.StableLemmas.{ins_ascends}
 use Rattle.sort_spec.proofs.TermLemmas.{less_is_weak}
+use Rattle.sort_spec.specs.declared.pair.OnPair.{OnPair}
 use Rattle.sort_spec.specs.declared.term.SortTerm.{SortTerm}
 use Rattle.expr_types.specs.ConditionTree.{ConditionTree}
 use Rattle.expr_types.specs.Conditions.{holds, having_list}
 use Rattle.expr_types.specs.ExprTree.{Operator, search, tuple, select, having, sort, top, unique}
 use Rattle.expr_types.specs.ExprTree.{merge, reduce, rollup, inner_join, left_outer_join, intersect}
 use Rattle.expr_types.specs.ExprTree.{complement, hash_join, outer_hash_join, in_parallel, topic}
-use Rattle.expr_types.specs.ExprTree.{update, commit, daemon, first_or, SearchParts}
+use Rattle.expr_types.specs.ExprTree.{update, commit, daemon, first_or, second_or, SearchParts}
 use Rattle.expr_types.specs.ExprTree.{ExprTree, node, ExprTrees, no_exprs, an_expr, expr_list}
+use Rattle.expr_types.specs.Joins.{join_list, outer_join_list}
 use Rattle.expr_types.specs.Groups.{same_key, firsts, groups, unique_list, reduced, reduce_list}
 use Rattle.expr_types.specs.Groups.{rolled}
 use Rattle.expr_types.specs.Groups.{rollup_list, metric_name}
@@ -26,7 +28,8 @@ use Rattle.expr_types.specs.Rules.{Collections, given, AreAsNeeded}
 use Rattle.expr_types.specs.Lists.{list_of, lists_of, AreSorted}
 use Rattle.expr_types.specs.Lists.{AreAllSorted}
 use Rattle.expr_types.specs.Orders.{IsSortedOver}
-use Rattle.expr_types.specs.Rules.{is_well, is_between, count_limit}
+use Rattle.expr_types.specs.Limits.{is_between, count_limit}
+use Rattle.expr_types.specs.Rules.{is_well}
 use Rattle.expr_types.specs.Planned.{AreWell, AreAllWell}
 use Rattle.expr_types.specs.Rows.{selected, select_list}
 use Rattle.expr_types.specs.Sources.{cut_to, first_rows, then_by_id, found_rows, search_list}
@@ -34,9 +37,10 @@ use Rattle.expr_types.specs.declared.item.GroupOp.{GroupOp}
 use Rattle.expr_types.specs.declared.item.Item.{Item}
 use Rattle.expr_types.specs.declared.item.Metric.{Metric}
 use Rattle.expr_types.proofs.OrderLemmas.{ascends_by_first}
-use Rattle.expr_check.specs.Orders.{IsInOrder, kept_order, kept_terms, first_terms}
+use Rattle.expr_check.specs.Orders.{IsInOrder, AreInOrder, kept_order, kept_terms, first_terms}
+use Rattle.expr_check.specs.Orders.{directions_of, joined_order}
 use Rattle.expr_check.specs.Rules.{order_given}
-use Rattle.expr_check.specs.Walk.{order_of, orders_of}
+use Rattle.expr_check.specs.Walk.{order_of, orders_of, all_fields}
 use Rattle.expr_check.specs.Needs.{names_first, meets_sort, meets_names}
 use Rattle.expr_check.specs.Faults.{names_fault, sort_fault, first_fault}
 use Rattle.expr_check.specs.Rules.{fault_at}
@@ -52,6 +56,9 @@ use Rattle.expr_check.proofs.AscendLemmas.{ascends_short, each_of, shorter-filte
 use Rattle.expr_check.proofs.AscendLemmas.{length-map}
 use Rattle.expr_check.proofs.AgreeLemmas.{Agrees, less-agree, value_cut}
 use Rattle.expr_check.proofs.ChosenLemmas.{IsKept, kept_terms-are}
+use Rattle.expr_check.proofs.FieldLemmas.{AreWithin, second_within, all_within}
+use Rattle.expr_check.proofs.JoinLemmas.{joinable, joined_in_order, none_agree, one_agrees}
+use Rattle.expr_check.proofs.JoinLemmas.{existing_in_order, sort_ascends}
 use Rattle.expr_check.proofs.KeyLemmas.{groups_ascend, reduced_keeps, rolled_keeps}
 
 -- a list by a sort is in its order
@@ -152,14 +159,6 @@ rollup_in_order names metrics (By terms) docs k m a =
     groups_ascend names terms (rolled names metrics) docs m
     (λ doc others h s. rolled_keeps names metrics doc others k h s) a
 
--- an input of a merge is in its order
-merge_input : (on : List SortTerm) (order : Order) (docs : List Doc) → meets_sort on order ≡ true
-    → IsInOrder order docs → IsAscending (less on) docs
-merge_input on Any docs m a = ascends_short (less on) docs a
-merge_input on (By terms) docs m a =
-    let p = are_first-prefix on terms m in
-    ascends_by_first on p.0 docs (subst (λ (l : List SortTerm). IsAscending (less l) docs) p.1 a)
-
 -- terms of which the first have these fields
 pub record IsNamedFirst (names : List ByteList) (terms : List SortTerm) : Type 0 where
   pub first : List SortTerm
@@ -211,14 +210,7 @@ sorted_over names (By terms) docs m a =
       ascends = subst (λ (l : List SortTerm). IsAscending (less l) docs) n.parted a;
     }
 
--- each list is in the order beside it
-abbrev pub AreInOrder : List Order → List (List Doc) → Type 0
-AreInOrder [] [] = Unit {0}
-AreInOrder [] (l ∷ ls) = ⊥
-AreInOrder (o ∷ os) [] = ⊥
-AreInOrder (o ∷ os) (l ∷ ls) = IsInOrder o l × AreInOrder os ls
-
--- so is the first of them
+-- the first list is in the first order
 first_in_order : (orders : List Order) (lists : List (List Doc)) → AreInOrder orders lists
     → IsInOrder (first_or Any orders) (first_or [] lists)
 first_in_order [] [] a = omega arith
@@ -254,19 +246,19 @@ all_sorted_over function names (o ∷ os) (l ∷ ls) e a = (
 
 -- those of a merge ascend
 all_ascend : (on : List SortTerm) (orders : List Order) (lists : List (List Doc))
-    → first_fault (sort_fault on) orders ≡ None → AreInOrder orders lists
+    → first_fault (sort_fault (codes "merge") on) orders ≡ None → AreInOrder orders lists
     → AllByRecursion (IsAscending (less on)) lists
 all_ascend on [] [] e a = tt
 all_ascend on [] (l ∷ ls) e a = absurd a
 all_ascend on (o ∷ os) [] e a = absurd a
 all_ascend on (o ∷ os) (l ∷ ls) e a = (
-  merge_input on o l
-      (sort_met on o (none_first (sort_fault on o) (first_fault (sort_fault on) os) e)) a.0,
-  all_ascend on os ls (none_second (sort_fault on o) (first_fault (sort_fault on) os) e) a.1,
+  sort_ascends on o l
+      (sort_met (codes "merge") on o (none_first (sort_fault (codes "merge") on o) (first_fault (sort_fault (codes "merge") on) os) e)) a.0,
+  all_ascend on os ls (none_second (sort_fault (codes "merge") on o) (first_fault (sort_fault (codes "merge") on) os) e) a.1,
 )
 
 -- where an operator has no fault, the lists of its inputs are in the order that it needs
-needs_hold : (op : Operator) (n : ℕ) (orders : List Order) (lists : List (List Doc))
+pub needs_hold : (op : Operator) (n : ℕ) (orders : List Order) (lists : List (List Doc))
     → is_well op n ≡ true → fault_at (λ name. true) op orders ≡ None → AreInOrder orders lists
     → AreAsNeeded op lists
 needs_hold (search p) many orders lists k e a = tt
@@ -282,60 +274,93 @@ needs_hold (reduce by op) many orders lists k e a =
     all_sorted_over (codes "reduce") by orders lists e a
 needs_hold (rollup over metrics) many orders lists k e a =
     all_sorted_over (codes "rollup") over orders lists e a
-needs_hold (inner_join on) many orders lists k e a = absurd (cc)
-needs_hold (left_outer_join on) many orders lists k e a = absurd (cc)
-needs_hold (intersect on) many orders lists k e a = absurd (cc)
-needs_hold (complement on) many orders lists k e a = absurd (cc)
-needs_hold (hash_join on) many orders lists k e a = absurd (cc)
-needs_hold (outer_hash_join on) many orders lists k e a = absurd (cc)
+needs_hold (inner_join on) many orders lists k e a =
+    (directions_of orders, joinable (codes "innerJoin") on orders lists e a)
+needs_hold (left_outer_join on) many orders lists k e a =
+    (directions_of orders, joinable (codes "leftOuterJoin") on orders lists e a)
+needs_hold (intersect on) many orders lists k e a =
+    (directions_of orders, joinable (codes "intersect") on orders lists e a)
+needs_hold (complement on) many orders lists k e a =
+    (directions_of orders, joinable (codes "complement") on orders lists e a)
+needs_hold (hash_join on) many orders lists k e a = tt
+needs_hold (outer_hash_join on) many orders lists k e a = tt
 needs_hold (in_parallel collection workers by) many orders lists k e a = absurd (cc)
 needs_hold (topic p) many orders lists k e a = absurd (cc)
 needs_hold (update dest size) many orders lists k e a = absurd (cc)
 needs_hold (commit dest size) many orders lists k e a = absurd (cc)
 needs_hold (daemon id interval terminate) many orders lists k e a = absurd (cc)
 
+-- what an inner join gives is in the left order, as far as it stays
+inner_in_order : (on : List OnPair) (orders : List Order) (names : List (List ByteList))
+    (lists : List (List Doc)) → AreInOrder orders lists → AreWithin names lists
+    → IsInOrder (joined_order on (second_or [] names) (first_or Any orders))
+    (join_list on (first_or [] lists) (second_or [] lists))
+inner_in_order on orders names lists a w =
+    joined_in_order (λ left. []) none_agree on (second_or [] names) (first_or Any orders)
+    (first_or [] lists) (second_or [] lists) (first_in_order orders lists a)
+    (second_within names lists w)
+
+-- so is what an outer join gives
+outer_in_order : (on : List OnPair) (orders : List Order) (names : List (List ByteList))
+    (lists : List (List Doc)) → AreInOrder orders lists → AreWithin names lists
+    → IsInOrder (joined_order on (second_or [] names) (first_or Any orders))
+    (outer_join_list on (first_or [] lists) (second_or [] lists))
+outer_in_order on orders names lists a w =
+    joined_in_order (λ left. left ∷ []) one_agrees on (second_or [] names) (first_or Any orders)
+    (first_or [] lists) (second_or [] lists) (first_in_order orders lists a)
+    (second_within names lists w)
+
 -- and what it gives is in its order
 given_in_order : (docs : Collections) (op : Operator) (n : ℕ) (orders : List Order)
-    (lists : List (List Doc)) → is_well op n ≡ true → fault_at (λ name. true) op orders ≡ None
-    → AreInOrder orders lists → IsInOrder (order_given op orders) (given docs op lists)
-given_in_order docs (search p) many orders lists k e a =
+    (names : List (List ByteList)) (lists : List (List Doc)) → is_well op n ≡ true
+    → fault_at (λ name. true) op orders ≡ None → AreInOrder orders lists → AreWithin names lists
+    → IsInOrder (order_given op orders names) (given docs op lists)
+given_in_order docs (search p) many orders names lists k e a w =
     search_ascends p (docs p.collection) (fields_met p.fl p.sort e)
-given_in_order docs (tuple fields) many orders lists k e a = omega arith
-given_in_order docs (select items) many orders lists k e a =
+given_in_order docs (tuple fields) many orders names lists k e a w = omega arith
+given_in_order docs (select items) many orders names lists k e a w =
     select_in_order items (first_or Any orders) (first_or [] lists)
     (first_in_order orders lists a)
-given_in_order docs (having condition) many orders lists k e a =
+given_in_order docs (having condition) many orders names lists k e a w =
     having_in_order condition (first_or Any orders) (first_or [] lists)
     (first_in_order orders lists a)
-given_in_order docs (sort by) many orders lists k e a = sorted_ascends by (first_or [] lists)
-given_in_order docs (top n by) many orders lists k e a =
+given_in_order docs (sort by) many orders names lists k e a w = sorted_ascends by (first_or [] lists)
+given_in_order docs (top n by) many orders names lists k e a w =
     ascends_take (less by) n (ins_sort (less by) (first_or [] lists))
     (sorted_ascends by (first_or [] lists))
-given_in_order docs (unique over) many orders lists k e a =
+given_in_order docs (unique over) many orders names lists k e a w =
     unique_in_order over (first_or Any orders) (first_or [] lists)
     (first_in_order orders lists a)
-given_in_order docs (merge on) many orders lists k e a =
+given_in_order docs (merge on) many orders names lists k e a w =
     sorted_ascends on (flat_map (λ l. l) lists)
-given_in_order docs (reduce by op) many orders lists k e a =
+given_in_order docs (reduce by op) many orders names lists k e a w =
     reduce_in_order by op (first_or Any orders) (first_or [] lists)
     (is_false (is_named (codes "group") by)
     (and_second (many == 1 && is_between 1 count_limit op.n) (not (is_named (codes "group") by)) k))
     (first_meets (codes "reduce") by orders e) (first_in_order orders lists a)
-given_in_order docs (rollup over metrics) many orders lists k e a =
+given_in_order docs (rollup over metrics) many orders names lists k e a w =
     rollup_in_order over metrics (first_or Any orders) (first_or [] lists)
     (and_second (many == 1) (list_all (λ m. not (is_named (metric_name m) over)) metrics) k)
     (first_meets (codes "rollup") over orders e) (first_in_order orders lists a)
-given_in_order docs (inner_join on) many orders lists k e a = absurd (cc)
-given_in_order docs (left_outer_join on) many orders lists k e a = absurd (cc)
-given_in_order docs (intersect on) many orders lists k e a = absurd (cc)
-given_in_order docs (complement on) many orders lists k e a = absurd (cc)
-given_in_order docs (hash_join on) many orders lists k e a = absurd (cc)
-given_in_order docs (outer_hash_join on) many orders lists k e a = absurd (cc)
-given_in_order docs (in_parallel collection workers by) many orders lists k e a = absurd (cc)
-given_in_order docs (topic p) many orders lists k e a = absurd (cc)
-given_in_order docs (update dest size) many orders lists k e a = absurd (cc)
-given_in_order docs (commit dest size) many orders lists k e a = absurd (cc)
-given_in_order docs (daemon id interval terminate) many orders lists k e a = absurd (cc)
+given_in_order docs (inner_join on) many orders names lists k e a w =
+    inner_in_order on orders names lists a w
+given_in_order docs (left_outer_join on) many orders names lists k e a w =
+    outer_in_order on orders names lists a w
+given_in_order docs (intersect on) many orders names lists k e a w =
+    existing_in_order true on (first_or Any orders) (first_or [] lists) (second_or [] lists)
+    (first_in_order orders lists a)
+given_in_order docs (complement on) many orders names lists k e a w =
+    existing_in_order false on (first_or Any orders) (first_or [] lists) (second_or [] lists)
+    (first_in_order orders lists a)
+given_in_order docs (hash_join on) many orders names lists k e a w =
+    inner_in_order on orders names lists a w
+given_in_order docs (outer_hash_join on) many orders names lists k e a w =
+    outer_in_order on orders names lists a w
+given_in_order docs (in_parallel collection workers by) many orders names lists k e a w = absurd (cc)
+given_in_order docs (topic p) many orders names lists k e a w = absurd (cc)
+given_in_order docs (update dest size) many orders names lists k e a w = absurd (cc)
+given_in_order docs (commit dest size) many orders names lists k e a w = absurd (cc)
+given_in_order docs (daemon id interval terminate) many orders names lists k e a w = absurd (cc)
 
 -- both facts of an expression
 abbrev pub Holds : Collections → ExprTree → Type 0
@@ -358,7 +383,8 @@ mutual
       (none_second (fault_at (λ name. true) op (orders_of inputs))
       (faults_where (λ name. true) inputs) e) in (
         (h.0, needs_hold op many (orders_of inputs) (lists_of docs inputs) w.0 own h.1),
-        given_in_order docs op many (orders_of inputs) (lists_of docs inputs) w.0 own h.1,
+        given_in_order docs op many (orders_of inputs) (all_fields inputs) (lists_of docs inputs) w.0
+            own h.1 (all_within docs inputs),
       )
 
   -- and of all inputs

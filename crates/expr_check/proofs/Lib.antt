@@ -6,5 +6,7 @@ pub mod AscendLemmas
 pub mod AgreeLemmas
 pub mod ChosenLemmas
 pub mod KeyLemmas
-pub mod LawLemmas
+pub mod PairLemmas
 pub mod FieldLemmas
+pub mod JoinLemmas
+pub mod LawLemmas

@@ -42,9 +42,10 @@ pub is_none-None : {T : Type 0} (a : Option T) → is_none a ≡ true → a ≡ 
 is_none-None None e = refl
 is_none-None (Some x) e = absurd (cc)
 
--- the order of an expression is that of its operator over the orders of its inputs
+-- the order of an expression is that of its operator over the orders and fields of its inputs
 pub order_of-parts : (t : ExprTree)
     → order_of t ≡ order_given (operator_in t) (orders_of (inputs_of (inputs_in t)))
+    (all_fields (inputs_of (inputs_in t)))
 order_of-parts t = ap order_of (sym (node-parts t))
 
 -- its fields are those of its operator over the fields of its inputs

@@ -6,7 +6,12 @@ use Rattle.std.specs.List.{join_by}
 use Rattle.std.specs.Option.{option_or}
 use Rattle.tuple_values.specs.Document.{ByteList, is_named}
 use Rattle.sort_spec.specs.Texts.{direction_word}
+use Rattle.sort_spec.specs.declared.pair.OnPair.{OnPair}
 use Rattle.sort_spec.specs.declared.term.SortTerm.{SortTerm}
+use Rattle.expr_types.specs.ExprTree.{first_or, second_or}
+use Rattle.expr_types.specs.Joins.{left_names, right_names}
+use Rattle.expr_types.specs.Orders.{sort_over}
+use Rattle.expr_check.specs.Orders.{directions}
 use Rattle.expr_check.specs.Needs.{meets_sort, meets_names}
 use Rattle.expr_check.specs.declared.order.Order.{Order}
 use Rattle.expr_check.specs.declared.order.Order.TheVariants.{Any, By}
@@ -66,9 +71,23 @@ abbrev pub names_fault : ByteList → List ByteList → Order → Option CheckFa
 names_fault function names order =
     order_fault function (names_text names) (meets_names names order) order
 
--- the fault of a merge at an input
-abbrev pub sort_fault : List SortTerm → Order → Option CheckFault
-sort_fault on order = order_fault (codes "merge") (sort_text on) (meets_sort on order) order
+-- the fault of a function that needs a sort as first terms
+abbrev pub sort_fault : ByteList → List SortTerm → Order → Option CheckFault
+sort_fault function on order =
+    order_fault function (sort_text on) (meets_sort on order) order
+
+-- the fault of a function at its right input, which needs the right names of pairs in the
+-- directions of the left one; where that is any, directions are free
+abbrev pub right_fault : ByteList → List OnPair → Order → Order → Option CheckFault
+right_fault function on Any right = names_fault function (right_names on) right
+right_fault function on (By terms) right =
+    sort_fault function (sort_over (right_names on) (directions terms)) right
+
+-- the fault of a function that needs its inputs in the order of pairs, the left one first
+abbrev pub join_fault : ByteList → List OnPair → List Order → Option CheckFault
+join_fault function on orders =
+    option_or (names_fault function (left_names on) (first_or Any orders))
+    (right_fault function on (first_or Any orders) (second_or Any orders))
 
 -- the first fault of several things, by the fault that each has
 abbrev pub first_fault : {X : Type 0} → (X → Option CheckFault) → List X → Option CheckFault

@@ -11,16 +11,6 @@ use Rattle.expr_check.specs.Rules.{order_given, fields_given, fault_at, read_by,
 use Rattle.expr_check.specs.declared.order.Order.{Order}
 use Rattle.expr_check.specs.declared.fault.CheckFault.{CheckFault}
 
--- the order of an expression
-abbrev mutual
-  pub order_of : ExprTree → Order
-  order_of (node op inputs) = order_given op (orders_of inputs)
-
-  -- the orders of inputs
-  pub orders_of : ExprTrees → List Order
-  orders_of no_exprs = []
-  orders_of (an_expr e exprs) = order_of e ∷ orders_of exprs
-
 -- the fields of an expression
 abbrev mutual
   pub fields_of : ExprTree → List ByteList
@@ -30,6 +20,16 @@ abbrev mutual
   pub all_fields : ExprTrees → List (List ByteList)
   all_fields no_exprs = []
   all_fields (an_expr e exprs) = fields_of e ∷ all_fields exprs
+
+-- the order of an expression
+abbrev mutual
+  pub order_of : ExprTree → Order
+  order_of (node op inputs) = order_given op (orders_of inputs) (all_fields inputs)
+
+  -- the orders of inputs
+  pub orders_of : ExprTrees → List Order
+  orders_of no_exprs = []
+  orders_of (an_expr e exprs) = order_of e ∷ orders_of exprs
 
 -- the first fault of an expression, where these collections are there
 abbrev mutual

@@ -1,5 +1,5 @@
 // Expressions that may be evaluated.
-ghost use Rattle.std.specs.Prelude.{◌≡◌, true, is_none};
+ghost use Rattle.std.specs.Prelude.{◌≡◌, true, None, is_none};
 ghost use Rattle.std.specs.Coded.{Coded-set};
 ghost use Rattle.expr_types.specs.ExprTree.{expr_tree};
 ghost use Rattle.expr_types.specs.Planned.{IsPlanned};
@@ -59,6 +59,9 @@ impl Checked {
     pub fn expr(&self) -> &Expr
         ensures value { result.now ≡ expr_of self.now }
         ensures planned { IsPlanned (expr_tree result.now) }
+
+        // It has no fault but that a collection may be unknown.
+        ensures faultless { own_fault (expr_tree result.now) ≡ None }
 
         // Whatever the documents are, each input has the order that its function needs.
         ensures sorted { (docs : Collections) → AreSorted docs (expr_tree result.now) }

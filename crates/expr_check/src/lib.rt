@@ -6,9 +6,11 @@ mod checked;
 mod checking;
 mod fault;
 mod fields;
+mod joins;
 mod needs;
 mod order;
 mod orders;
+mod places;
 mod reads;
 mod rules;
 #[cfg(test)]
@@ -19,4 +21,6 @@ mod walk;
 pub use checked::Checked;
 pub use checking::{check, fields_hold, orders_hold};
 pub use fault::CheckFault;
+pub use joins::join_order;
 pub use order::Order;
+pub use rules::{fields_given, order_given};

@@ -80,8 +80,8 @@ fn meets_sort(on: &SortSpec, order: &Order) -> bool
     }
 }
 
-// The fault of a function that needs the names as first fields, at an input of this order.
-fn names_fault(
+/// The fault of a function that needs the names as first fields, at an input of this order.
+pub(crate) fn names_fault(
     alloc: Global,
     function: &str,
     names: &FieldList,
@@ -121,14 +121,19 @@ pub(crate) fn names_faults(
     Ok(None)
 }
 
-// The fault of a merge at an input of this order.
-fn sort_fault(alloc: Global, on: &SortSpec, order: &Order) -> Result<Option<CheckFault>, Memory>
-    ensures { IfOk result (λ fault. fault ≡ sort_fault on.now order.now) }
+/// The fault of a function that needs a sort as first terms, at an input of this order.
+pub(crate) fn sort_fault(
+    alloc: Global,
+    function: &str,
+    on: &SortSpec,
+    order: &Order,
+) -> Result<Option<CheckFault>, Memory>
+    ensures { IfOk result (λ fault. fault ≡ sort_fault function.now on.now order.now) }
 {
     if meets_sort(on, order) {
         return Ok(None);
     }
-    let function = Text::of(alloc, "merge")?;
+    let function = Text::of(alloc, function)?;
     let needed = sort_text(alloc, on)?;
     let has = has_text(alloc, order)?;
     Ok(Some(CheckFault::NotSorted {
@@ -138,16 +143,18 @@ fn sort_fault(alloc: Global, on: &SortSpec, order: &Order) -> Result<Option<Chec
     }))
 }
 
-/// The fault of a merge at the first input that has one.
+/// The fault of a function that needs a sort as first terms, at the first input that has one.
 pub(crate) fn sort_faults(
     alloc: Global,
+    function: &str,
     on: &SortSpec,
     orders: &[Order],
 ) -> Result<Option<CheckFault>, Memory>
-    ensures { IfOk result (λ fault. fault ≡ first_fault (sort_fault on.now) orders.now) }
+    ensures { IfOk result (λ fault. fault
+        ≡ first_fault (sort_fault function.now on.now) orders.now) }
 {
     for order in orders {
-        let fault = sort_fault(alloc, on, order)?;
+        let fault = sort_fault(alloc, function, on, order)?;
         if fault.is_some() {
             return Ok(fault);
         }

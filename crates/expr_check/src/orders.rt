@@ -1,14 +1,16 @@
 // What becomes of an order.
 ghost use Rattle.std.specs.Prelude.{◌≡◌, IfOk, option_map, take};
 ghost use Rattle.expr_check.specs.Orders.{touches, is_touched_once, new_name};
+ghost use Rattle.std.specs.List.{list_any};
 ghost use Rattle.expr_check.specs.Orders.{kept_terms, kept_order, first_terms};
+ghost use Rattle.expr_check.specs.Orders.{is_paired, keeps_field, joined_terms, joined_order};
 
 use crate::Order;
 use crate::fields::given_name;
 use expr_types::{Item, Items};
-use sort_spec::{SortSpec, SortTerm};
+use sort_spec::{OnPair, OnSpec, SortSpec, SortTerm};
 use std::alloc::Global;
-use tuple_values::{Memory, Text, TryCopy};
+use tuple_values::{FieldList, Memory, Text, TryCopy};
 
 // Whether the item gives a value to this name.
 fn touches(name: &str, item: &Item) -> bool
@@ -107,5 +109,65 @@ pub(crate) fn first_terms(alloc: Global, count: usize, order: &Order) -> Result<
     match order {
         Order::Any => Ok(Order::Any),
         Order::By(sort) => Ok(Order::By(sort_of(alloc, first_of(count, sort.as_slice()))?)),
+    }
+}
+
+// Whether a pair asks that this field has one value on both sides.
+fn is_paired(field: &str, pair: &OnPair) -> bool
+    ensures { result ≡ is_paired field.now pair.now }
+{
+    pair.left.as_str() == field && pair.right.as_str() == field
+}
+
+// Whether one of the pairs does.
+fn any_paired(field: &str, on: &[OnPair]) -> bool
+    ensures { result ≡ list_any (is_paired field.now) on.now }
+{
+    for pair in on {
+        if is_paired(field, pair) {
+            return true;
+        }
+    }
+    false
+}
+
+// Whether a left field keeps its value in a join with tuples of these fields.
+fn keeps_field(on: &OnSpec, right: &FieldList, field: &str) -> bool
+    ensures { result ≡ keeps_field on.now right.now field.now }
+{
+    !right.contains(field) || any_paired(field, on.as_slice())
+}
+
+// The longest prefix of the terms whose fields keep their values.
+fn joined_terms(
+    alloc: Global,
+    on: &OnSpec,
+    right: &FieldList,
+    sort: &SortSpec,
+) -> Result<SortSpec, Memory>
+    ensures { IfOk result (λ kept. kept ≡ joined_terms on.now right.now sort.now) }
+{
+    let mut kept = SortSpec::new(alloc);
+    for term in sort.as_slice() {
+        if !keeps_field(on, right, term.field.as_str()) {
+            return Ok(kept);
+        }
+        kept.push(term.copy(alloc)?)?;
+    }
+    Ok(kept)
+}
+
+/// The left order after a join with tuples of these fields.
+pub(crate) fn joined_order(
+    alloc: Global,
+    on: &OnSpec,
+    right: &FieldList,
+    left: &Order,
+) -> Result<Order, Memory>
+    ensures { IfOk result (λ order. order ≡ joined_order on.now right.now left.now) }
+{
+    match left {
+        Order::Any => Ok(Order::By(SortSpec::new(alloc))),
+        Order::By(sort) => Ok(Order::By(joined_terms(alloc, on, right, sort)?)),
     }
 }

@@ -11,8 +11,10 @@ ghost use Rattle.expr_check.specs.declared.order.Order.TheVariants.{Any};
 use crate::fields::{
     all_given, all_names, first_list, keys_of, rolled_names, topic_names, with_group,
 };
+use crate::joins::join_fault;
 use crate::needs::{names_faults, search_fault, sort_faults};
-use crate::orders::{first_terms, kept_order};
+use crate::orders::{first_terms, joined_order, kept_order};
+use crate::places::second_of;
 use crate::{CheckFault, Order};
 use expr_types::Expr;
 use sort_spec::SortSpec;
@@ -39,16 +41,16 @@ pub(crate) fn fault_at(
         Expr::Unique { over, .. } => names_faults(alloc, "unique", over, orders),
         Expr::Reduce { by, .. } => names_faults(alloc, "reduce", by, orders),
         Expr::Rollup { over, .. } => names_faults(alloc, "rollup", over, orders),
-        Expr::Merge { on, .. } => sort_faults(alloc, on, orders),
+        Expr::Merge { on, .. } => sort_faults(alloc, "merge", on, orders),
+        Expr::InnerJoin { on, .. } => join_fault(alloc, "innerJoin", on, orders),
+        Expr::LeftOuterJoin { on, .. } => join_fault(alloc, "leftOuterJoin", on, orders),
+        Expr::Intersect { on, .. } => join_fault(alloc, "intersect", on, orders),
+        Expr::Complement { on, .. } => join_fault(alloc, "complement", on, orders),
         Expr::Tuple { .. }
         | Expr::Select { .. }
         | Expr::Having { .. }
         | Expr::Sort { .. }
         | Expr::Top { .. }
-        | Expr::InnerJoin { .. }
-        | Expr::LeftOuterJoin { .. }
-        | Expr::Intersect { .. }
-        | Expr::Complement { .. }
         | Expr::HashJoin { .. }
         | Expr::OuterHashJoin { .. }
         | Expr::Parallel { .. }
@@ -69,10 +71,15 @@ fn first_order(orders: Vec<Order>) -> Order
     }
 }
 
-/// The order that the function gives of those of its inputs.
-pub(crate) fn order_given(alloc: Global, expr: &Expr, orders: Vec<Order>) -> Result<Order, Memory>
+/// The order that the function gives of those of its inputs, which have these fields.
+pub fn order_given(
+    alloc: Global,
+    expr: &Expr,
+    orders: Vec<Order>,
+    fields: &[FieldList],
+) -> Result<Order, Memory>
     ensures { IfOk result (λ order. order
-        ≡ order_given (operator_in (expr_tree expr.now)) orders.items) }
+        ≡ order_given (operator_in (expr_tree expr.now)) orders.items fields.now) }
 {
     match expr {
         Expr::Search { sort, .. }
@@ -81,17 +88,21 @@ pub(crate) fn order_given(alloc: Global, expr: &Expr, orders: Vec<Order>) -> Res
         | Expr::Merge { on: sort, .. } => Ok(Order::By(sort.copy(alloc)?)),
         Expr::Tuple { .. } => Ok(Order::Any),
         Expr::Select { items, .. } => kept_order(alloc, items, &first_order(orders)),
-        Expr::Having { .. } | Expr::Unique { .. } => Ok(first_order(orders)),
+        Expr::Having { .. }
+        | Expr::Unique { .. }
+        | Expr::Intersect { .. }
+        | Expr::Complement { .. } => Ok(first_order(orders)),
+        Expr::InnerJoin { on, .. }
+        | Expr::LeftOuterJoin { on, .. }
+        | Expr::HashJoin { on, .. }
+        | Expr::OuterHashJoin { on, .. } => {
+            let none = FieldList::new(alloc);
+            joined_order(alloc, on, second_of(fields, &none), &first_order(orders))
+        }
         Expr::Reduce { by: names, .. } | Expr::Rollup { over: names, .. } => {
             first_terms(alloc, names.len(), &first_order(orders))
         }
-        Expr::InnerJoin { .. }
-        | Expr::LeftOuterJoin { .. }
-        | Expr::Intersect { .. }
-        | Expr::Complement { .. }
-        | Expr::HashJoin { .. }
-        | Expr::OuterHashJoin { .. }
-        | Expr::Parallel { .. }
+        Expr::Parallel { .. }
         | Expr::Topic { .. }
         | Expr::Update { .. }
         | Expr::Commit { .. }
@@ -100,11 +111,7 @@ pub(crate) fn order_given(alloc: Global, expr: &Expr, orders: Vec<Order>) -> Res
 }
 
 /// The fields that the function's tuples have, of those of its inputs.
-pub(crate) fn fields_given(
-    alloc: Global,
-    expr: &Expr,
-    lists: Vec<FieldList>,
-) -> Result<FieldList, Memory>
+pub fn fields_given(alloc: Global, expr: &Expr, lists: Vec<FieldList>) -> Result<FieldList, Memory>
     ensures { IfOk result (λ fields. fields
         ≡ fields_given (operator_in (expr_tree expr.now)) lists.items) }
 {

@@ -48,7 +48,7 @@ pub(crate) fn walk(alloc: Global, expr: &Expr, names: &Names) -> Result<Walked, 
         fault,
     } = walk_inputs(alloc, expr, names)?;
     let own = fault_at(alloc, expr, orders.as_slice(), names)?;
-    let order = order_given(alloc, expr, orders)?;
+    let order = order_given(alloc, expr, orders, fields.as_slice())?;
     let fields = fields_given(alloc, expr, fields)?;
     Ok(Walked {
         order,

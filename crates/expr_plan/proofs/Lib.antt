@@ -4,6 +4,7 @@ pub mod InputLemmas
 pub mod ShapeLemmas
 pub mod ReadLemmas
 pub mod KeptLemmas
+pub mod KeyedLemmas
 pub mod PlannedLemmas
 pub mod WalkLemmas
 pub mod GivenLemmas

@@ -37,7 +37,10 @@ use Rattle.expr_plan.specs.Helpers.{helper_name, are_items}
 use Rattle.expr_plan.specs.declared.row.Function.{Function}
 use Rattle.expr_plan.specs.declared.row.Function.TheVariants.{Search, Tuple, Select, Having}
 use Rattle.expr_plan.specs.declared.row.Function.TheVariants.{Sort, Top, Unique, Merge}
-use Rattle.expr_plan.specs.declared.row.Function.TheVariants.{Reduce, Rollup}
+use Rattle.expr_plan.specs.declared.row.Function.TheVariants.{Reduce, Rollup, InnerJoin}
+use Rattle.expr_plan.specs.declared.row.Function.TheVariants.{LeftOuterJoin, Intersect}
+use Rattle.expr_plan.specs.declared.row.Function.TheVariants.{Complement, HashJoin}
+use Rattle.expr_plan.specs.declared.row.Function.TheVariants.{OuterHashJoin}
 use Rattle.expr_plan.specs.declared.param.Given.{Given}
 use Rattle.expr_plan.specs.declared.param.Param.{Param}
 use Rattle.expr_plan.specs.declared.param.Param.TheVariants as param
@@ -98,13 +101,19 @@ told_apart Unique = inl refl
 told_apart Merge = inl refl
 told_apart Reduce = inr refl
 told_apart Rollup = inr refl
+told_apart InnerJoin = inl refl
+told_apart LeftOuterJoin = inl refl
+told_apart Intersect = inl refl
+told_apart Complement = inl refl
+told_apart HashJoin = inl refl
+told_apart OuterHashJoin = inl refl
 
 -- a name that is neither a key of a function nor what its helpers are told as
-abbrev IsOther : Function → ByteList → Type 0
+abbrev pub IsOther : Function → ByteList → Type 0
 IsOther f name = (shape_of f name ≡ None) × (bytes_eq name (helper_name f) ≡ false)
 
 -- such a name is each operand
-operands_apart : (f : Function) → AllByRecursion (IsOther f) (operands f)
+pub operands_apart : (f : Function) → AllByRecursion (IsOther f) (operands f)
 operands_apart Search = ((refl, refl), tt)
 operands_apart Tuple = tt
 operands_apart Select = tt
@@ -115,9 +124,15 @@ operands_apart Unique = tt
 operands_apart Merge = tt
 operands_apart Reduce = tt
 operands_apart Rollup = tt
+operands_apart InnerJoin = tt
+operands_apart LeftOuterJoin = tt
+operands_apart Intersect = tt
+operands_apart Complement = tt
+operands_apart HashJoin = tt
+operands_apart OuterHashJoin = tt
 
 -- a key isn't what helpers of these are told as
-no_key : (f : Function) (kind : Helpers) (key : ByteList) (s : Shape) → helpers_of f ≡ kind
+pub no_key : (f : Function) (kind : Helpers) (key : ByteList) (s : Shape) → helpers_of f ≡ kind
     → (kind ≡ helpers.Nothing → ⊥) → bytes_eq key (helper_word kind) ≡ true
     → shape_of f key ≡ Some s → ⊥
 no_key f kind key s same some is known =
@@ -313,7 +328,7 @@ sub_good f made w more c is_made e all = go (is_helper f c) e
     go false e = same_good f made w more e all
 
 -- helpers that are items
-items_are : (kind : Helpers) → are_items kind ≡ true → kind ≡ helpers.Items
+pub items_are : (kind : Helpers) → are_items kind ≡ true → kind ≡ helpers.Items
 items_are helpers.Nothing e = absurd (cc)
 items_are helpers.Items e = refl
 items_are helpers.Condition e = absurd (cc)

@@ -7,18 +7,19 @@ use Rattle.tuple_values.specs.Document.{ByteList, is_named}
 use Rattle.tuple_values.specs.Whole.{whole_of}
 use Rattle.query_syntax.specs.Reading.{read_of}
 use Rattle.query_syntax.specs.Tree.{ClauseTree}
-use Rattle.sort_spec.specs.Reading.{Reading, said, stuck, sort_of, names_of}
+use Rattle.sort_spec.specs.Reading.{Reading, said, stuck, sort_of, on_of, names_of}
+use Rattle.sort_spec.specs.declared.pair.OnPair.{OnPair}
 use Rattle.sort_spec.specs.declared.term.SortTerm.{SortTerm}
 use Rattle.expr_reader.specs.Tree.{CallTree, call}
 use Rattle.expr_reader.specs.declared.call.Word.{Word}
-use Rattle.expr_types.specs.Rules.{is_between, count_limit}
+use Rattle.expr_types.specs.Limits.{is_between, count_limit}
 use Rattle.expr_types.specs.declared.item.GroupOp.{GroupOp}
 use Rattle.expr_plan.specs.Arguments.{may_be_call}
 use Rattle.expr_plan.specs.Fault.{and_then}
 use Rattle.expr_plan.specs.GroupReading.{group_of_call, grouped, group_by}
 use Rattle.expr_plan.specs.Literals.{within}
 use Rattle.expr_plan.specs.Shapes.{bad, read_as, number_param, names_param, fields_param}
-use Rattle.expr_plan.specs.Shapes.{sort_param, query_param}
+use Rattle.expr_plan.specs.Shapes.{sort_param, pairs_param, query_param}
 use Rattle.expr_plan.specs.Words.{arg_list, word_under}
 use Rattle.expr_plan.specs.declared.fault.PlanFault.{PlanFault}
 use Rattle.expr_plan.specs.declared.row.Function.{Function}
@@ -60,8 +61,10 @@ has_shape shape.Anything param.Nothing = true
 has_shape shape.Names (param.Names names) = true
 has_shape shape.FieldNames (param.Names names) = true
 has_shape shape.Sort (param.Sort terms) = true
+has_shape shape.Pairs (param.Pairs pairs) = true
 has_shape shape.Query (param.Query query) = true
 has_shape (shape.Number low high) (param.Number n) = is_between low high n
+has_shape shape.Input param.Nothing = true
 has_shape _ p = false
 
 -- a value that is read under a key has the key's shape
@@ -97,6 +100,12 @@ read_has shape.Sort f key text quoted p e = go (sort_of text) e
     go (stuck at) e = absurd (cc)
     go (said terms) e =
         subst (λ x. has_shape shape.Sort x ≡ true) (fine_same (param.Sort terms) p e) refl
+read_has shape.Pairs f key text quoted p e = go (on_of text) e
+  where
+    go : (r : Reading (List OnPair)) → pairs_param r ≡ Ok p → has_shape shape.Pairs p ≡ true
+    go (stuck at) e = absurd (cc)
+    go (said pairs) e =
+        subst (λ x. has_shape shape.Pairs x ≡ true) (fine_same (param.Pairs pairs) p e) refl
 read_has shape.Query f key text quoted p e = go (read_of text) e
   where
     go : (r : Result (List ClauseTree) ℕ) → query_param r ≡ Ok p
@@ -114,6 +123,7 @@ read_has (shape.Number low high) f key text quoted p e =
     go (Some n) is e =
         subst (λ x. has_shape (shape.Number low high) x ≡ true) (fine_same (param.Number n) p e)
         (within_between low high (whole_of text) n is)
+read_has shape.Input f key text quoted p e = absurd (cc)
 
 -- what may be a call is nothing as a parameter
 pub call_has : (s : Shape) → may_be_call s ≡ true → has_shape s param.Nothing ≡ true
@@ -122,8 +132,10 @@ call_has shape.Anything e = refl
 call_has shape.Names e = absurd (cc)
 call_has shape.FieldNames e = absurd (cc)
 call_has shape.Sort e = absurd (cc)
+call_has shape.Pairs e = absurd (cc)
 call_has shape.Query e = absurd (cc)
 call_has (shape.Number low high) e = absurd (cc)
+call_has shape.Input e = refl
 
 -- whether a parameter is a group of a number within its limits
 abbrev pub group_fits : Param → Bool

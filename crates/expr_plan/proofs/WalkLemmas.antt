@@ -12,6 +12,7 @@ use Rattle.expr_plan.specs.Walk.{inputs_found}
 use Rattle.expr_plan.specs.declared.fault.PlanFault.{PlanFault}
 use Rattle.expr_plan.specs.declared.fault.PlanFault.TheVariants as fault
 use Rattle.expr_plan.specs.declared.row.Function.{Function}
+use Rattle.expr_plan.specs.declared.row.Place.{Place}
 
 -- a fault of a first part is the fault of both
 pub first_faulty : {X Y : Type 0} (wanted : Result X PlanFault) (next : X → Result Y PlanFault)
@@ -68,27 +69,27 @@ args_read f made given args k le =
     at_drop_all (λ rest. with_args f made given (trees_of rest)) args k le
 
 -- the inputs from a place on are that of the argument there and those of the rest
-pub inputs_found-drop : (f : Function) (args : List ArgTree) (k : ℕ) (a : ArgTree) → k < length args
+pub inputs_found-drop : (place : Place) (f : Function) (args : List ArgTree) (k : ℕ) (a : ArgTree) → k < length args
     → a ≡ get_or args k a
-    → inputs_found f (trees_of (drop k args))
-    ≡ cond (is_input f a) 1 0 + inputs_found f (trees_of (drop (k + 1) args))
-inputs_found-drop f args k a lt is =
-    at_drop_more (λ rest. inputs_found f (trees_of rest)) args k a lt
-    ∙ ap (λ x. cond (is_input f x) 1 0 + inputs_found f (trees_of (drop (k + 1) args))) (sym is)
+    → inputs_found place f (trees_of (drop k args))
+    ≡ cond (is_input place f a) 1 0 + inputs_found place f (trees_of (drop (k + 1) args))
+inputs_found-drop place f args k a lt is =
+    at_drop_more (λ rest. inputs_found place f (trees_of rest)) args k a lt
+    ∙ ap (λ x. cond (is_input place f x) 1 0 + inputs_found place f (trees_of (drop (k + 1) args))) (sym is)
 
 -- no argument from a place past the last is an input
-pub no_inputs : (f : Function) (args : List ArgTree) (k : ℕ) → length args ≤ k
-    → inputs_found f (trees_of (drop k args)) ≡ 0
-no_inputs f args k le = at_drop_all (λ rest. inputs_found f (trees_of rest)) args k le
+pub no_inputs : (place : Place) (f : Function) (args : List ArgTree) (k : ℕ) → length args ≤ k
+    → inputs_found place f (trees_of (drop k args)) ≡ 0
+no_inputs place f args k le = at_drop_all (λ rest. inputs_found place f (trees_of rest)) args k le
 
 -- with an input at a place there is one more from there on, and else as many
-pub found_more : (f : Function) (args : List ArgTree) (k : ℕ) (a : ArgTree) → k < length args
+pub found_more : (place : Place) (f : Function) (args : List ArgTree) (k : ℕ) (a : ArgTree) → k < length args
     → a ≡ get_or args k a
-    → (is_input f a ≡ true → inputs_found f (trees_of (drop k args))
-    ≡ 1 + inputs_found f (trees_of (drop (k + 1) args)))
-    × (is_input f a ≡ false → inputs_found f (trees_of (drop k args))
-    ≡ inputs_found f (trees_of (drop (k + 1) args)))
-found_more f args k a lt is = (
-  λ e. inputs_found-drop f args k a lt is ∙ rw e refl,
-  λ e. inputs_found-drop f args k a lt is ∙ rw e (omega arith),
+    → (is_input place f a ≡ true → inputs_found place f (trees_of (drop k args))
+    ≡ 1 + inputs_found place f (trees_of (drop (k + 1) args)))
+    × (is_input place f a ≡ false → inputs_found place f (trees_of (drop k args))
+    ≡ inputs_found place f (trees_of (drop (k + 1) args)))
+found_more place f args k a lt is = (
+  λ e. inputs_found-drop place f args k a lt is ∙ rw e refl,
+  λ e. inputs_found-drop place f args k a lt is ∙ rw e (omega arith),
 )

@@ -74,8 +74,10 @@ may_be_call shape.Anything = true
 may_be_call shape.Names = false
 may_be_call shape.FieldNames = false
 may_be_call shape.Sort = false
+may_be_call shape.Pairs = false
 may_be_call shape.Query = false
 may_be_call (shape.Number low high) = false
+may_be_call shape.Input = true
 
 -- a call under a key
 abbrev pub with_call : Function → Walked → ByteList → Option Shape → Result Walked PlanFault

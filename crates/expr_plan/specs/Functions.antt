@@ -1,5 +1,5 @@
 -- What is read off the row of a function (own).
-use Rattle.std.specs.Prelude.{ℕ, Bool, ◌==◌, nat_le, List, [], ◌∷◌, ◌++◌, map}
+use Rattle.std.specs.Prelude.{ℕ, ◌+◌, Bool, true, false, ◌==◌, nat_le, List, [], ◌∷◌, ◌++◌, map}
 use Rattle.std.specs.Prelude.{Option, Some, None, bytes_eq, codes, if◌then◌else◌}
 use Rattle.std.specs.List.{find}
 use Rattle.std.specs.Option.{option_or}
@@ -14,6 +14,7 @@ use Rattle.expr_plan.specs.declared.row.Helpers.TheVariants.{Metrics}
 use Rattle.expr_plan.specs.declared.row.Inputs.{Inputs}
 use Rattle.expr_plan.specs.declared.row.Inputs.TheVariants.{Exactly, AtLeast}
 use Rattle.expr_plan.specs.declared.row.Shape.{Shape}
+use Rattle.expr_plan.specs.declared.row.Shape.TheVariants as shape
 
 -- the name of a function
 abbrev pub name_of : Function → ByteList
@@ -46,6 +47,37 @@ abbrev pub shape_of : Function → ByteList → Option Shape
 shape_of f key =
     option_or (shape_in key (row_of f).mandatory)
     (option_or (shape_in key (row_of f).optional) (row_of f).others)
+
+-- whether what has this shape is an input
+abbrev pub is_input_shape : Shape → Bool
+is_input_shape shape.Literal = false
+is_input_shape shape.Anything = false
+is_input_shape shape.Names = false
+is_input_shape shape.FieldNames = false
+is_input_shape shape.Sort = false
+is_input_shape shape.Pairs = false
+is_input_shape shape.Query = false
+is_input_shape (shape.Number low high) = false
+is_input_shape shape.Input = true
+
+-- the first key of these under which a call is an input, if there is one
+abbrev pub input_key_in : List KeyShape → Option ByteList
+input_key_in [] = None
+input_key_in (k ∷ keys) = if is_input_shape k.1 then Some k.0 else input_key_in keys
+
+-- the key of a function under which a call is an input, if it has one
+abbrev pub input_key : Function → Option ByteList
+input_key f = input_key_in (row_of f).mandatory
+
+-- as many inputs, and one more where there is such a key
+abbrev pub with_keyed : Inputs → Option ByteList → Inputs
+with_keyed inputs None = inputs
+with_keyed (Exactly n) (Some key) = Exactly (n + 1)
+with_keyed (AtLeast n) (Some key) = AtLeast (n + 1)
+
+-- whether it takes as many inputs, with the one under a key
+abbrev pub takes_all : Function → ℕ → Bool
+takes_all f inputs = is_number (with_keyed (row_of f).inputs (input_key f)) inputs
 
 -- the names of operands, in order
 abbrev pub operands : Function → List ByteList

@@ -4,6 +4,7 @@ use Rattle.std.specs.Prelude.{codes, if◌then◌else◌}
 use Rattle.std.specs.List.{filter_map}
 use Rattle.tuple_values.specs.Document.{ByteList}
 use Rattle.query_syntax.specs.Tree.{ClauseTree}
+use Rattle.sort_spec.specs.declared.pair.OnPair.{OnPair}
 use Rattle.sort_spec.specs.declared.term.SortTerm.{SortTerm}
 use Rattle.expr_plan.specs.declared.param.Given.{Given}
 use Rattle.expr_plan.specs.declared.param.Param.{Param}
@@ -64,6 +65,11 @@ names_in _ = []
 abbrev pub sort_in : Param → List SortTerm
 sort_in (param.Sort terms) = terms
 sort_in _ = []
+
+-- a parameter as pairs
+abbrev pub pairs_in : Param → List OnPair
+pairs_in (param.Pairs pairs) = pairs
+pairs_in _ = []
 
 -- a parameter as a query
 abbrev pub query_in : Param → List ClauseTree

@@ -8,7 +8,7 @@ use Rattle.expr_reader.specs.Tree.{CallTree, call, ArgTree}
 use Rattle.expr_reader.specs.declared.call.Word.{Word}
 use Rattle.expr_plan.specs.Literals.{within}
 use Rattle.expr_plan.specs.Words.{arg_list, word_under}
-use Rattle.expr_types.specs.Rules.{count_limit}
+use Rattle.expr_types.specs.Limits.{count_limit}
 use Rattle.expr_types.specs.declared.item.GroupOp.{GroupOp}
 
 -- a group of a sort and a number that were read

@@ -1,11 +1,12 @@
 -- The calls among the arguments of a function that are no inputs (Solr Reference Guide, "Stream
 -- Decorator Reference"; that their names count under their own function alone is own).
 use Rattle.std.specs.Prelude.{Bool, true, false, not, ◌||◌, ◌&&◌, List, [], ◌∷◌, bytes_eq, codes}
+use Rattle.std.specs.Prelude.{Option, Some, None}
 use Rattle.std.specs.List.{list_any}
 use Rattle.tuple_values.specs.Document.{ByteList, is_named}
 use Rattle.expr_reader.specs.Tree.{CallTree, ArgTree, plain, named, named_call, sub, renamed}
 use Rattle.expr_reader.specs.Tree.{ArgTrees}
-use Rattle.expr_plan.specs.Functions.{helpers_of, helper_word}
+use Rattle.expr_plan.specs.Functions.{helpers_of, helper_word, input_key}
 use Rattle.expr_plan.specs.Given.{is_given}
 use Rattle.expr_plan.specs.Items.{metric_names}
 use Rattle.expr_plan.specs.Words.{called, arg_list}
@@ -16,6 +17,8 @@ use Rattle.expr_plan.specs.declared.param.Param.TheVariants as param
 use Rattle.expr_plan.specs.declared.row.Helpers.{Helpers}
 use Rattle.expr_plan.specs.declared.row.Helpers.TheVariants.{Nothing, Items, Condition, Group}
 use Rattle.expr_plan.specs.declared.row.Helpers.TheVariants.{Metrics}
+use Rattle.expr_plan.specs.declared.row.Place.{Place}
+use Rattle.expr_plan.specs.declared.row.Place.TheVariants.{Alone, UnderKey}
 
 -- whether a name is that of a metric
 abbrev pub is_metric_word : ByteList → Bool
@@ -43,13 +46,21 @@ is_helper_word Metrics name = is_metric_word name
 abbrev pub is_helper : Function → CallTree → Bool
 is_helper f c = is_helper_word (helpers_of f) (called c)
 
--- whether an argument is an input of the function
-abbrev pub is_input : Function → ArgTree → Bool
-is_input f (plain text quoted) = false
-is_input f (named key text quoted) = false
-is_input f (named_call key c) = false
-is_input f (sub c) = not (is_helper f c)
-is_input f (renamed c to) = false
+-- whether a key is this one, if there is one
+abbrev pub is_key : Option ByteList → ByteList → Bool
+is_key None key = false
+is_key (Some other) key = bytes_eq other key
+
+-- whether an argument is an input of the function at such a place: a call by itself that is no
+-- helper, or one under the function's key for an input
+abbrev pub is_input : Place → Function → ArgTree → Bool
+is_input place f (plain text quoted) = false
+is_input place f (named key text quoted) = false
+is_input Alone f (named_call key c) = false
+is_input UnderKey f (named_call key c) = is_key (input_key f) key
+is_input Alone f (sub c) = not (is_helper f c)
+is_input UnderKey f (sub c) = false
+is_input place f (renamed c to) = false
 
 -- whether these helpers are items, which words and calls with a new name may be, too
 abbrev pub are_items : Helpers → Bool

@@ -5,17 +5,21 @@ use Rattle.tuple_values.specs.Document.{ByteList, Doc, put}
 use Rattle.tuple_values.specs.Views.{datum_of}
 use Rattle.expr_types.specs.ConditionTree.{ConditionTree, all_of, no_conditions}
 use Rattle.expr_types.specs.ExprTree.{Operator, search, tuple, select, having, sort, top, unique}
-use Rattle.expr_types.specs.ExprTree.{merge, reduce, rollup}
+use Rattle.expr_types.specs.ExprTree.{merge, reduce, rollup, inner_join, left_outer_join, intersect}
+use Rattle.expr_types.specs.ExprTree.{complement, hash_join, outer_hash_join}
 use Rattle.expr_plan.specs.Given.{Walked, param_at, text_in, names_in, names_maybe, sort_in}
-use Rattle.expr_plan.specs.Given.{query_in, number_in, count_in, group_in, items_in, metrics_in}
+use Rattle.expr_plan.specs.Given.{pairs_in, query_in, number_in, count_in, group_in, items_in, metrics_in}
 use Rattle.expr_plan.specs.declared.param.Given.{Given}
 use Rattle.expr_plan.specs.declared.param.Param.{Param}
 use Rattle.expr_plan.specs.declared.param.Param.TheVariants as param
-use Rattle.expr_types.specs.Rules.{count_limit, row_limit}
+use Rattle.expr_types.specs.Limits.{count_limit, row_limit}
 use Rattle.expr_plan.specs.declared.row.Function.{Function}
 use Rattle.expr_plan.specs.declared.row.Function.TheVariants.{Search, Tuple, Select, Having}
 use Rattle.expr_plan.specs.declared.row.Function.TheVariants.{Sort, Top, Unique, Merge}
-use Rattle.expr_plan.specs.declared.row.Function.TheVariants.{Reduce, Rollup}
+use Rattle.expr_plan.specs.declared.row.Function.TheVariants.{Reduce, Rollup, InnerJoin}
+use Rattle.expr_plan.specs.declared.row.Function.TheVariants.{LeftOuterJoin, Intersect}
+use Rattle.expr_plan.specs.declared.row.Function.TheVariants.{Complement, HashJoin}
+use Rattle.expr_plan.specs.declared.row.Function.TheVariants.{OuterHashJoin}
 use Rattle.expr_plan.specs.declared.row.Helpers.{Helpers}
 use Rattle.expr_plan.specs.declared.row.Helpers.TheVariants as helpers
 use Rattle.expr_plan.specs.declared.row.Inputs.{Inputs}
@@ -48,6 +52,17 @@ a_row name inputs = record {
   mandatory = [];
   optional = [];
   others = None;
+}
+
+-- a function that reads two inputs side by side by pairs
+abbrev pub paired_row : ByteList → FunctionRow
+paired_row name =
+    record (a_row name (Exactly 2)) { mandatory = (codes "on", shape.Pairs) ∷ [] }
+
+-- a function of an input and of one under a key, by pairs
+abbrev pub hashed_row : ByteList → FunctionRow
+hashed_row name = record (a_row name (Exactly 1)) {
+  mandatory = (codes "hashed", shape.Input) ∷ (codes "on", shape.Pairs) ∷ [];
 }
 
 -- the table; what has to be given stands in the order in which it is missed
@@ -85,11 +100,18 @@ row_of Rollup = record (a_row (codes "rollup") (Exactly 1)) {
   helpers = helpers.Metrics;
   mandatory = (codes "over", shape.Names) ∷ [];
 }
+row_of InnerJoin = paired_row (codes "innerJoin")
+row_of LeftOuterJoin = paired_row (codes "leftOuterJoin")
+row_of Intersect = paired_row (codes "intersect")
+row_of Complement = paired_row (codes "complement")
+row_of HashJoin = hashed_row (codes "hashJoin")
+row_of OuterHashJoin = hashed_row (codes "outerHashJoin")
 
 -- each function, in the order of the table
 abbrev pub functions : List Function
 functions =
-    Search ∷ Tuple ∷ Select ∷ Having ∷ Sort ∷ Top ∷ Unique ∷ Merge ∷ Reduce ∷ Rollup ∷ []
+    Search ∷ Tuple ∷ Select ∷ Having ∷ Sort ∷ Top ∷ Unique ∷ Merge ∷ Reduce ∷ Rollup ∷ InnerJoin
+    ∷ LeftOuterJoin ∷ Intersect ∷ Complement ∷ HashJoin ∷ OuterHashJoin ∷ []
 
 -- the fields with one literal
 abbrev pub with_field : Doc → ByteList → Param → Doc
@@ -133,3 +155,9 @@ operator_of Reduce w =
     reduce (names_in (param_at (codes "by") w.given))
     (group_in (param_at (codes "group") w.given))
 operator_of Rollup w = rollup (names_in (param_at (codes "over") w.given)) (metrics_in w.given)
+operator_of InnerJoin w = inner_join (pairs_in (param_at (codes "on") w.given))
+operator_of LeftOuterJoin w = left_outer_join (pairs_in (param_at (codes "on") w.given))
+operator_of Intersect w = intersect (pairs_in (param_at (codes "on") w.given))
+operator_of Complement w = complement (pairs_in (param_at (codes "on") w.given))
+operator_of HashJoin w = hash_join (pairs_in (param_at (codes "on") w.given))
+operator_of OuterHashJoin w = outer_hash_join (pairs_in (param_at (codes "on") w.given))

@@ -4,7 +4,7 @@ ghost use Rattle.expr_plan.specs.Arguments.{walked};
 ghost use Rattle.expr_types.specs.ConditionViews.{condition_tree};
 ghost use Rattle.expr_types.specs.ExprTree.{node, inputs_of, tuple};
 ghost use Rattle.expr_types.specs.ExprTree.{expr_tree};
-ghost use Rattle.expr_plan.specs.Functions.{takes};
+ghost use Rattle.expr_plan.specs.Functions.{takes_all};
 ghost use Rattle.expr_plan.specs.Table.{operator_of, search_of, condition_or_all, with_field, with_fields};
 
 use crate::param::{Given, Param, Params};
@@ -161,6 +161,78 @@ fn rollup(alloc: Global, mut params: Params, inputs: Exprs) -> Result<Expr, Memo
     })
 }
 
+// The two inputs, the first before the second.
+fn two(alloc: Global, inputs: Exprs) -> Result<(Box<Expr>, Box<Expr>), Memory>
+    requires { length inputs.items ≡ 2 }
+    ensures { IfOk result (λ both.
+        map expr_tree inputs.items ≡ expr_tree both.0.value ∷ expr_tree both.1.value ∷ []) }
+{
+    let mut inputs = inputs;
+    let second = Box::new(alloc, inputs.remove(1))?;
+    let first = Box::new(alloc, inputs.remove(0))?;
+    Ok((first, second))
+}
+
+fn inner_join(alloc: Global, mut params: Params, inputs: Exprs) -> Result<Expr, Memory>
+    requires { length inputs.items ≡ 2 }
+    ensures { IfOk result (λ e. expr_tree e
+        ≡ node (operator_of Function.InnerJoin (walked params)) (inputs_of (map expr_tree inputs.items))) }
+{
+    let (left, right) = two(alloc, inputs)?;
+    let on = params.take_pairs(alloc, "on");
+    Ok(Expr::InnerJoin { left, right, on })
+}
+
+fn left_outer_join(alloc: Global, mut params: Params, inputs: Exprs) -> Result<Expr, Memory>
+    requires { length inputs.items ≡ 2 }
+    ensures { IfOk result (λ e. expr_tree e
+        ≡ node (operator_of Function.LeftOuterJoin (walked params)) (inputs_of (map expr_tree inputs.items))) }
+{
+    let (left, right) = two(alloc, inputs)?;
+    let on = params.take_pairs(alloc, "on");
+    Ok(Expr::LeftOuterJoin { left, right, on })
+}
+
+fn intersect(alloc: Global, mut params: Params, inputs: Exprs) -> Result<Expr, Memory>
+    requires { length inputs.items ≡ 2 }
+    ensures { IfOk result (λ e. expr_tree e
+        ≡ node (operator_of Function.Intersect (walked params)) (inputs_of (map expr_tree inputs.items))) }
+{
+    let (left, right) = two(alloc, inputs)?;
+    let on = params.take_pairs(alloc, "on");
+    Ok(Expr::Intersect { left, right, on })
+}
+
+fn complement(alloc: Global, mut params: Params, inputs: Exprs) -> Result<Expr, Memory>
+    requires { length inputs.items ≡ 2 }
+    ensures { IfOk result (λ e. expr_tree e
+        ≡ node (operator_of Function.Complement (walked params)) (inputs_of (map expr_tree inputs.items))) }
+{
+    let (left, right) = two(alloc, inputs)?;
+    let on = params.take_pairs(alloc, "on");
+    Ok(Expr::Complement { left, right, on })
+}
+
+fn hash_join(alloc: Global, mut params: Params, inputs: Exprs) -> Result<Expr, Memory>
+    requires { length inputs.items ≡ 2 }
+    ensures { IfOk result (λ e. expr_tree e
+        ≡ node (operator_of Function.HashJoin (walked params)) (inputs_of (map expr_tree inputs.items))) }
+{
+    let (input, hashed) = two(alloc, inputs)?;
+    let on = params.take_pairs(alloc, "on");
+    Ok(Expr::HashJoin { input, hashed, on })
+}
+
+fn outer_hash_join(alloc: Global, mut params: Params, inputs: Exprs) -> Result<Expr, Memory>
+    requires { length inputs.items ≡ 2 }
+    ensures { IfOk result (λ e. expr_tree e
+        ≡ node (operator_of Function.OuterHashJoin (walked params)) (inputs_of (map expr_tree inputs.items))) }
+{
+    let (input, hashed) = two(alloc, inputs)?;
+    let on = params.take_pairs(alloc, "on");
+    Ok(Expr::OuterHashJoin { input, hashed, on })
+}
+
 /// The expression of a function with these parameters and inputs.
 pub(crate) fn expression(
     alloc: Global,
@@ -168,7 +240,7 @@ pub(crate) fn expression(
     params: Params,
     inputs: Exprs,
 ) -> Result<Expr, Memory>
-    requires { takes function (length inputs.items) ≡ true }
+    requires { takes_all function (length inputs.items) ≡ true }
     ensures { IfOk result (λ e. expr_tree e
         ≡ node (operator_of function (walked params)) (inputs_of (map expr_tree inputs.items))) }
 {
@@ -183,5 +255,11 @@ pub(crate) fn expression(
         Function::Merge => merge(alloc, params, inputs),
         Function::Reduce => reduce(alloc, params, inputs),
         Function::Rollup => rollup(alloc, params, inputs),
+        Function::InnerJoin => inner_join(alloc, params, inputs),
+        Function::LeftOuterJoin => left_outer_join(alloc, params, inputs),
+        Function::Intersect => intersect(alloc, params, inputs),
+        Function::Complement => complement(alloc, params, inputs),
+        Function::HashJoin => hash_join(alloc, params, inputs),
+        Function::OuterHashJoin => outer_hash_join(alloc, params, inputs),
     }
 }

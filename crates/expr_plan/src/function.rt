@@ -1,7 +1,7 @@
 // The functions that are known, and what is read off their rows.
 ghost use Rattle.std.specs.Prelude.{◌≡◌, map, option_map, bytes_eq};
 ghost use Rattle.std.specs.List.{find};
-ghost use Rattle.expr_plan.specs.Functions.{function_of, name_of, helpers_of, is_number, shape_in, shape_of, next_operand, first_missing, takes, helper_word, helper_words};
+ghost use Rattle.expr_plan.specs.Functions.{function_of, name_of, helpers_of, is_number, shape_in, shape_of, next_operand, first_missing, takes, helper_word, helper_words, is_input_shape, input_key_in, input_key};
 ghost use Rattle.expr_plan.specs.Given.{first_absent};
 ghost use Rattle.expr_plan.specs.TableViews.{key_shape};
 
@@ -59,6 +59,13 @@ impl Function {
             .or(row.others)
     }
 
+    /// The key under which a call is an input, if there is one.
+    pub(crate) fn input_key(self) -> Option<&'static str>
+        ensures { option_map (λ key. key.now) result ≡ input_key self }
+    {
+        input_key_in(row_of(self).mandatory)
+    }
+
     /// The operand that a plain argument is, behind the parameters that are given; none where all
     /// operands are.
     pub(crate) fn next_operand(self, params: &Params) -> Option<&'static str>
@@ -96,6 +103,35 @@ fn shape_in(key: &str, keys: &[Key]) -> Option<Shape>
     for k in keys {
         if k.0 == key {
             return Some(k.1);
+        }
+    }
+    None
+}
+
+// Whether what has this shape is an input.
+fn is_input_shape(shape: Shape) -> bool
+    ensures { result ≡ is_input_shape shape }
+{
+    match shape {
+        Shape::Input => true,
+        Shape::Literal
+        | Shape::Anything
+        | Shape::Names
+        | Shape::FieldNames
+        | Shape::Sort
+        | Shape::Pairs
+        | Shape::Query
+        | Shape::Number { .. } => false,
+    }
+}
+
+// The first key of these under which a call is an input, if there is one.
+fn input_key_in(keys: &'static [Key]) -> Option<&'static str>
+    ensures { option_map (λ key. key.now) result ≡ input_key_in (map key_shape keys.now) }
+{
+    for k in keys {
+        if is_input_shape(k.1) {
+            return Some(k.0);
         }
     }
     None

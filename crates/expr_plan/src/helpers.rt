@@ -1,16 +1,16 @@
 // The calls among the arguments of a function that are no inputs.
-ghost use Rattle.std.specs.Prelude.{◌≡◌, IfOk};
+ghost use Rattle.std.specs.Prelude.{◌≡◌, IfOk, option_map};
 ghost use Rattle.std.specs.List.{list_any};
 ghost use Rattle.tuple_values.specs.Document.{is_named};
 ghost use Rattle.expr_reader.specs.Tree.{trees_of};
 ghost use Rattle.expr_reader.specs.Views.{call_tree, arg_tree};
-ghost use Rattle.expr_plan.specs.Helpers.{is_metric_word, is_condition_word, is_helper_word, is_helper, is_input, are_items, is_single, helper_name, is_full, made_by, made_names, names_any};
+ghost use Rattle.expr_plan.specs.Helpers.{is_metric_word, is_condition_word, is_helper_word, is_helper, is_key, is_input, are_items, is_single, helper_name, is_full, made_by, made_names, names_any};
 
 use crate::function::helper_word;
 use crate::metrics::metric_names;
 use crate::param::{Param, Params};
-use crate::row::{Function, Helpers};
-use expr_reader::{Arg, Args, Call};
+use crate::row::{Function, Helpers, Place};
+use expr_reader::{Arg, ArgValue, Args, Call};
 use std::alloc::Global;
 use tuple_values::{FieldList, Memory, Text};
 
@@ -53,13 +53,30 @@ pub(crate) fn is_helper(function: Function, call: &Call) -> bool
     is_helper_word(function.helpers(), call.name.as_str())
 }
 
-/// Whether an argument is an input of the function.
-pub(crate) fn is_input(function: Function, arg: &Arg) -> bool
-    ensures { result ≡ is_input function (arg_tree arg.now) }
+// Whether a key is this one, if there is one.
+fn is_key(input_key: Option<&str>, key: &str) -> bool
+    ensures { result ≡ is_key (option_map (λ name. name.now) input_key.entry) key.now }
 {
-    match arg {
-        Arg::Sub(call) => !is_helper(function, call),
-        Arg::Plain(_) | Arg::Named { .. } | Arg::Renamed { .. } => false,
+    match input_key {
+        Some(other) => other == key,
+        None => false,
+    }
+}
+
+/// Whether an argument is an input of the function at such a place.
+pub(crate) fn is_input(place: Place, function: Function, arg: &Arg) -> bool
+    ensures { result ≡ is_input place function (arg_tree arg.now) }
+{
+    match (place, arg) {
+        (Place::Alone, Arg::Sub(call)) => !is_helper(function, call),
+        (
+            Place::UnderKey,
+            Arg::Named {
+                key,
+                value: ArgValue::Sub(_),
+            },
+        ) => is_key(function.input_key(), key.as_str()),
+        (_, Arg::Plain(_) | Arg::Named { .. } | Arg::Sub(_) | Arg::Renamed { .. }) => false,
     }
 }
 

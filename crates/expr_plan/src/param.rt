@@ -1,11 +1,11 @@
 // What the arguments of a call give.
 ghost use Rattle.std.specs.Prelude.{◌≡◌, ◌++◌, ◌∷◌, [], OnOk, OnErr, IfOk, Some, None};
 ghost use Rattle.std.specs.List.{cons_option};
-ghost use Rattle.expr_plan.specs.Given.{is_given, param_at, taken, text_in, names_in, sort_in, query_in, number_in, count_in, group_in, item_in, metric_of_param, metric_in, items_in, metrics_in, names_maybe};
+ghost use Rattle.expr_plan.specs.Given.{is_given, param_at, taken, text_in, names_in, sort_in, pairs_in, query_in, number_in, count_in, group_in, item_in, metric_of_param, metric_in, items_in, metrics_in, names_maybe};
 
 use crate::{Condition, GroupOp, Item, Items, Metric, Metrics};
 use query_syntax::{Clauses, Query};
-use sort_spec::SortSpec;
+use sort_spec::{OnSpec, SortSpec};
 use std::alloc::Global;
 use std::mem;
 use tuple_values::{FieldList, Memory, Sequence, Text, Value};
@@ -19,6 +19,7 @@ pub enum Param {
     Plain(Text),
     Names(FieldList),
     Sort(SortSpec),
+    Pairs(OnSpec),
     Query(Query),
     Number(u64),
     Item(Item),
@@ -142,6 +143,17 @@ impl Params {
         match self.take(name) {
             Param::Sort(sort) => sort,
             _ => SortSpec::new(alloc),
+        }
+    }
+
+    /// Takes out pairs; none where there is none.
+    pub fn take_pairs(&mut self, alloc: Global, name: &str) -> OnSpec
+        ensures value { result ≡ pairs_in (param_at name.now self.old.items.items) }
+        ensures rest { self.new.items.items ≡ taken name.now self.old.items.items }
+    {
+        match self.take(name) {
+            Param::Pairs(pairs) => pairs,
+            _ => OnSpec::new(alloc),
         }
     }
 

@@ -14,12 +14,12 @@ ghost use Rattle.expr_plan.specs.declared.fault.PlanFault.TheVariants.{MissingPa
 
 use crate::building::expression;
 use crate::function::function_of;
-use crate::helpers::{is_helper, made_names};
+use crate::helpers::{is_input, made_names};
 use crate::param::{Params, push_some};
-use crate::row::Function;
+use crate::row::{Function, Place};
 use crate::walk::{inputs_found, params_of};
 use crate::{Expr, Exprs, PlanFault};
-use expr_reader::{Arg, Args, Call};
+use expr_reader::{Arg, ArgValue, Args, Call};
 use std::alloc::Global;
 use tuple_values::{Memory, Sequence, Text, TryCopy};
 
@@ -44,7 +44,7 @@ fn walk_args(alloc: Global, function: Function, args: &Args) -> Result<Params, P
         (λ params. walked_of function (trees_of args.now) ≡ Ok (walked params))
         (IsFaultOf (walked_of function (trees_of args.now))) }
 {
-    let found = inputs_found(function, args);
+    let found = inputs_found(Place::Alone, function, args);
     if !function.takes(found) {
         return Err(wrong_inputs(alloc, function, found)?);
     }
@@ -71,7 +71,9 @@ pub fn plan(alloc: Global, call: &Call) -> Result<Expr, PlanFault>
         return Err(PlanFault::UnknownFunction { name });
     };
     let params = walk_args(alloc, function, &call.args)?;
-    let inputs = plan_inputs(alloc, function, &call.args)?;
+    let mut inputs = plan_inputs(alloc, Place::Alone, function, &call.args)?;
+    let mut keyed = plan_inputs(alloc, Place::UnderKey, function, &call.args)?;
+    inputs.append(&mut keyed)?;
     Ok(expression(alloc, function, params, inputs)?)
 }
 
@@ -85,29 +87,46 @@ pub fn first_fault_is_told()
 
 // What an argument stands for that may be an input.
 #[cycle(planning)]
-fn plan_input(alloc: Global, function: Function, arg: &Arg) -> Result<Option<Expr>, PlanFault>
+fn plan_input(
+    alloc: Global,
+    place: Place,
+    function: Function,
+    arg: &Arg,
+) -> Result<Option<Expr>, PlanFault>
     ensures { MatchResult result
-        (λ e. input_planned function (arg_tree arg.now)
+        (λ e. input_planned place function (arg_tree arg.now)
         ≡ Ok (cons_option (option_map expr_tree e) []))
-        (IsFaultOf (input_planned function (arg_tree arg.now))) }
+        (IsFaultOf (input_planned place function (arg_tree arg.now))) }
 {
+    if !is_input(place, function, arg) {
+        return Ok(None);
+    }
     match arg {
-        Arg::Sub(call) if !is_helper(function, call) => Ok(Some(plan(alloc, call)?)),
-        Arg::Plain(_) | Arg::Named { .. } | Arg::Sub(_) | Arg::Renamed { .. } => Ok(None),
+        Arg::Sub(call)
+        | Arg::Named {
+            value: ArgValue::Sub(call),
+            ..
+        } => Ok(Some(plan(alloc, call)?)),
+        Arg::Plain(_) | Arg::Named { .. } | Arg::Renamed { .. } => unreachable!(),
     }
 }
 
-// What the inputs of a function stand for.
+// What the inputs of a function at such a place stand for.
 #[cycle(planning)]
-fn plan_inputs(alloc: Global, function: Function, args: &Args) -> Result<Exprs, PlanFault>
+fn plan_inputs(
+    alloc: Global,
+    place: Place,
+    function: Function,
+    args: &Args,
+) -> Result<Exprs, PlanFault>
     ensures { MatchResult result
-        (λ inputs. inputs_planned function (trees_of args.now)
+        (λ inputs. inputs_planned place function (trees_of args.now)
         ≡ Ok (map expr_tree inputs.items))
-        (IsFaultOf (inputs_planned function (trees_of args.now))) }
+        (IsFaultOf (inputs_planned place function (trees_of args.now))) }
 {
     let mut inputs = Sequence::new(alloc);
     for k in 0..args.count() {
-        let input = plan_input(alloc, function, args.get(k))?;
+        let input = plan_input(alloc, place, function, args.get(k))?;
         push_some(&mut inputs, input)?;
     }
     Ok(inputs.into_vec())

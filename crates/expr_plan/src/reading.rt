@@ -2,11 +2,11 @@
 ghost use Rattle.std.specs.Prelude.{◌≡◌, IfOk, MatchResult, Ok, Err};
 ghost use Rattle.tuple_values.specs.Whole.{whole_of};
 ghost use Rattle.query_syntax.specs.Reading.{read_of};
-ghost use Rattle.sort_spec.specs.Reading.{sort_of, names_of};
+ghost use Rattle.sort_spec.specs.Reading.{sort_of, on_of, names_of};
 ghost use Rattle.expr_plan.specs.Functions.{name_of};
 ghost use Rattle.expr_plan.specs.Fault.{IsFaultOf};
 ghost use Rattle.expr_plan.specs.Literals.{within};
-ghost use Rattle.expr_plan.specs.Shapes.{number_param, names_param, fields_param, sort_param, query_param, read_as};
+ghost use Rattle.expr_plan.specs.Shapes.{number_param, names_param, fields_param, sort_param, pairs_param, query_param, read_as};
 ghost use Rattle.expr_plan.specs.declared.fault.PlanFault.TheVariants.{BadParam};
 
 use crate::PlanFault;
@@ -15,7 +15,7 @@ use crate::param::Param;
 use crate::row::{Function, Shape};
 use expr_reader::Word;
 use query_syntax::{QueryFault, read_query};
-use sort_spec::{SortFault, read_names, read_sort};
+use sort_spec::{SortFault, read_names, read_on, read_sort};
 use std::alloc::Global;
 use tuple_values::{Memory, Text, whole};
 
@@ -87,6 +87,17 @@ fn read_sort_text(alloc: Global, text: &str) -> Result<Param, PlanFault>
     }
 }
 
+fn read_pairs_text(alloc: Global, text: &str) -> Result<Param, PlanFault>
+    ensures { MatchResult result (λ p. pairs_param (on_of text.now) ≡ Ok p)
+        (IsFaultOf (pairs_param (on_of text.now))) }
+{
+    match read_on(alloc, text) {
+        Ok(pairs) => Ok(Param::Pairs(pairs)),
+        Err(SortFault::BadSort { at }) => Err(PlanFault::BadSort { at }),
+        Err(SortFault::OutOfMemory) => Err(PlanFault::OutOfMemory),
+    }
+}
+
 fn read_query_text(alloc: Global, text: &str) -> Result<Param, PlanFault>
     ensures { MatchResult result (λ p. query_param (read_of text.now) ≡ Ok p)
         (IsFaultOf (query_param (read_of text.now))) }
@@ -117,9 +128,11 @@ pub(crate) fn read_as(
         Shape::Names => read_name_list(alloc, function, key, text),
         Shape::FieldNames => read_field_list(alloc, function, key, text),
         Shape::Sort => read_sort_text(alloc, text),
+        Shape::Pairs => read_pairs_text(alloc, text),
         Shape::Query => read_query_text(alloc, text),
         Shape::Number { low, high } => {
             read_number(alloc, function, key, within(low, high, whole(text)))
         }
+        Shape::Input => Err(bad(alloc, function, key)?),
     }
 }

@@ -18,10 +18,16 @@ pub enum Function {
     Merge,
     Reduce,
     Rollup,
+    InnerJoin,
+    LeftOuterJoin,
+    Intersect,
+    Complement,
+    HashJoin,
+    OuterHashJoin,
 }
 
 /// Each function, in the order of the table.
-pub(crate) const FUNCTIONS: [Function; 10] = [
+pub(crate) const FUNCTIONS: [Function; 16] = [
     Function::Search,
     Function::Tuple,
     Function::Select,
@@ -32,6 +38,12 @@ pub(crate) const FUNCTIONS: [Function; 10] = [
     Function::Merge,
     Function::Reduce,
     Function::Rollup,
+    Function::InnerJoin,
+    Function::LeftOuterJoin,
+    Function::Intersect,
+    Function::Complement,
+    Function::HashJoin,
+    Function::OuterHashJoin,
 ];
 
 /// What the value under a key is to be.
@@ -46,9 +58,22 @@ pub enum Shape {
     /// Names of fields, of which none is `*`.
     FieldNames,
     Sort,
+    /// Pairs of fields.
+    Pairs,
     Query,
     /// A whole number within these limits.
     Number { low: u64, high: u64 },
+    /// A call, which is the function's last input.
+    Input,
+}
+
+/// Where an input stands among the arguments.
+#[derive(Clone, Copy, Debug)]
+pub enum Place {
+    /// By itself.
+    Alone,
+    /// Under the key of the function for an input.
+    UnderKey,
 }
 
 /// How many inputs a function takes.
@@ -207,6 +232,66 @@ const ROLLUP: Row = Row {
     others: None,
 };
 
+const INNER_JOIN: Row = Row {
+    name: "innerJoin",
+    inputs: Inputs::Exactly(2),
+    operands: &[],
+    helpers: Helpers::Nothing,
+    mandatory: &[Key("on", Shape::Pairs)],
+    optional: &[],
+    others: None,
+};
+
+const LEFT_OUTER_JOIN: Row = Row {
+    name: "leftOuterJoin",
+    inputs: Inputs::Exactly(2),
+    operands: &[],
+    helpers: Helpers::Nothing,
+    mandatory: &[Key("on", Shape::Pairs)],
+    optional: &[],
+    others: None,
+};
+
+const INTERSECT: Row = Row {
+    name: "intersect",
+    inputs: Inputs::Exactly(2),
+    operands: &[],
+    helpers: Helpers::Nothing,
+    mandatory: &[Key("on", Shape::Pairs)],
+    optional: &[],
+    others: None,
+};
+
+const COMPLEMENT: Row = Row {
+    name: "complement",
+    inputs: Inputs::Exactly(2),
+    operands: &[],
+    helpers: Helpers::Nothing,
+    mandatory: &[Key("on", Shape::Pairs)],
+    optional: &[],
+    others: None,
+};
+
+const HASH_JOIN: Row = Row {
+    name: "hashJoin",
+    inputs: Inputs::Exactly(1),
+    operands: &[],
+    helpers: Helpers::Nothing,
+    mandatory: &[Key("hashed", Shape::Input), Key("on", Shape::Pairs)],
+    optional: &[],
+    others: None,
+};
+
+const OUTER_HASH_JOIN: Row = Row {
+    name: "outerHashJoin",
+    inputs: Inputs::Exactly(1),
+    operands: &[],
+    helpers: Helpers::Nothing,
+    mandatory: &[Key("hashed", Shape::Input), Key("on", Shape::Pairs)],
+    optional: &[],
+    others: None,
+};
+
 /// The row of a function.
 pub(crate) fn row_of(function: Function) -> Row
     ensures { function_row result ≡ row_of function }
@@ -222,5 +307,11 @@ pub(crate) fn row_of(function: Function) -> Row
         Function::Merge => MERGE,
         Function::Reduce => REDUCE,
         Function::Rollup => ROLLUP,
+        Function::InnerJoin => INNER_JOIN,
+        Function::LeftOuterJoin => LEFT_OUTER_JOIN,
+        Function::Intersect => INTERSECT,
+        Function::Complement => COMPLEMENT,
+        Function::HashJoin => HASH_JOIN,
+        Function::OuterHashJoin => OUTER_HASH_JOIN,
     }
 }

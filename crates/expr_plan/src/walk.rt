@@ -16,7 +16,7 @@ use crate::items::{field_item, item_of, renamed_item};
 use crate::metrics::metric_of;
 use crate::param::{Param, Params};
 use crate::reading::{bad, read_as};
-use crate::row::{Function, Helpers, Shape};
+use crate::row::{Function, Helpers, Place, Shape};
 use crate::{Item, PlanFault};
 use expr_reader::{Arg, ArgValue, Args, Call, Word};
 use std::alloc::Global;
@@ -128,11 +128,12 @@ fn may_be_call(shape: Shape) -> bool
     ensures { result ≡ may_be_call shape }
 {
     match shape {
-        Shape::Anything => true,
+        Shape::Anything | Shape::Input => true,
         Shape::Literal
         | Shape::Names
         | Shape::FieldNames
         | Shape::Sort
+        | Shape::Pairs
         | Shape::Query
         | Shape::Number { .. } => false,
     }
@@ -297,13 +298,13 @@ pub(crate) fn params_of(
     Ok(params)
 }
 
-/// How many arguments are inputs.
-pub(crate) fn inputs_found(function: Function, args: &Args) -> u64
-    ensures { result ≡ inputs_found function (trees_of args.now) }
+/// How many arguments are inputs at such a place.
+pub(crate) fn inputs_found(place: Place, function: Function, args: &Args) -> u64
+    ensures { result ≡ inputs_found place function (trees_of args.now) }
 {
     let mut found: u64 = 0;
     for k in 0..args.count() {
-        if is_input(function, args.get(k)) {
+        if is_input(place, function, args.get(k)) {
             found += 1;
         }
     }

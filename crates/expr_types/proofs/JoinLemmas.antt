@@ -2,13 +2,21 @@
 use Rattle.std.proofs.Common.{◌≡◌, ◌<◌, ℕ, zero, suc, List, [], ◌∷◌, ◌++◌, map, filter, drop}
 use Rattle.std.proofs.Common.{get_or, length, Bool, true, false, if◌then◌else◌, refl, ◌∙◌, ap, sym}
 use Rattle.std.proofs.Common.{arith}
+use Rattle.std.proofs.Common.{◌≢◌, Option, Some, None}
+use Rattle.std.specs.Prelude.{bytes_eq}
 use Rattle.std.specs.List.{AllByRecursion}
+use Rattle.std.specs.Option.{option_or}
+use Rattle.std.proofs.lemmas.Slice.Eq.{bytes_eq-Decides}
 use Rattle.std.proofs.lemmas.List.{append-nil}
 use Rattle.std.proofs.lemmas.List.Elements.{filter-append}
-use Rattle.tuple_values.specs.Document.{Doc, over}
+use Rattle.tuple_values.specs.Document.{ByteList, Datum, Doc, Rises, value_at, put, over}
+use Rattle.tuple_values.specs.Document.{bytes_cmp}
+use Rattle.tuple_values.proofs.DocumentLemmas.{put_rises}
+use Rattle.tuple_values.proofs.MapLemmas.{bytes_same, value_put, value_put_other, value_over, same_doc}
 use Rattle.sort_spec.specs.declared.pair.OnPair.{OnPair}
 use Rattle.sort_spec.proofs.StableLemmas.{filter_none}
-use Rattle.expr_types.specs.Joins.{or_these, pairs, matches, alone_of, join_list, outer_join_list}
+use Rattle.expr_types.specs.Joins.{or_these, pairs, matches, alone_of, joined}
+use Rattle.expr_types.specs.Joins.{join_list, outer_join_list}
 
 -- where each element passes all are kept
 filter_all : {X : Type 0} (test : X → Bool) (xs : List X)
@@ -115,7 +123,51 @@ pairs-same alone one other both same (l ∷ ls) rights =
 
 -- an inner and an outer join differ by what a left document without a match gives
 pub pairs-kind : (outer : Bool) (on : List OnPair) (lefts rights : List Doc)
-    → pairs (alone_of outer) (matches on) over lefts rights
+    → pairs (alone_of outer) (matches on) joined lefts rights
     ≡ (if outer then outer_join_list on lefts rights else join_list on lefts rights)
 pairs-kind true on lefts rights = refl
 pairs-kind false on lefts rights = refl
+
+-- a value under another name isn't seen
+value_put-apart : (name other : ByteList) (v : Datum) (doc : Doc) → bytes_eq other name ≡ false
+    → value_at name (put other v doc) ≡ value_at name doc
+value_put-apart name other v doc e =
+    value_put_other name other v doc
+    (λ i. let same = (bytes_eq-Decides other name).1 (bytes_same other name i) in cc)
+
+-- what is joined has the right one's value where there is one, else the left one's
+pub value_joined : (name : ByteList) (left right : Doc)
+    → value_at name (joined left right) ≡ option_or (value_at name right) (value_at name left)
+value_joined name left [] = refl
+value_joined name left (f ∷ right) =
+    go (bytes_eq f.0 name) refl (value_joined name left right)
+  where
+    go : (b : Bool) → bytes_eq f.0 name ≡ b
+        → value_at name (joined left right) ≡ option_or (value_at name right) (value_at name left)
+        → value_at name (put f.0 f.1 (joined left right))
+        ≡ option_or (if b then Some f.1 else value_at name right) (value_at name left)
+    go true e later =
+        ap (λ (n : ByteList). value_at n (put f.0 f.1 (joined left right)))
+        (sym ((bytes_eq-Decides f.0 name).0 e))
+        ∙ value_put f.0 f.1 (joined left right)
+    go false e later = value_put-apart name f.0 f.1 (joined left right) e ∙ later
+
+-- its names rise
+joined_rises : (left right : Doc) → Rises left → Rises (joined left right)
+joined_rises left [] rises = rises
+joined_rises left (f ∷ right) rises =
+    put_rises f.0 f.1 (joined left right) (joined_rises left right rises)
+
+-- so do those of a document laid over another
+over_rises : (left right : Doc) → Rises left → Rises (over left right)
+over_rises left [] rises = rises
+over_rises left (f ∷ right) rises =
+    over_rises (put f.0 f.1 left) right (put_rises f.0 f.1 left rises)
+
+-- where names rise it is no matter in which order the right fields are put in
+pub over-joined : (left right : Doc) → Rises left → Rises right
+    → over left right ≡ joined left right
+over-joined left right l r =
+    same_doc (over left right) (joined left right) (over_rises left right l)
+    (joined_rises left right l)
+    (λ name. value_over name left right r ∙ sym (value_joined name left right))

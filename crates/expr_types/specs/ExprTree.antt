@@ -88,6 +88,11 @@ abbrev pub first_or : {X : Type 0} → X → List X → X
 first_or other [] = other
 first_or other (x ∷ xs) = x
 
+-- the second, or this where there is none
+abbrev pub second_or : {X : Type 0} → X → List X → X
+second_or other [] = other
+second_or other (x ∷ xs) = first_or other xs
+
 -- one level, with each input already seen as its tree
 abbrev pub expr_step : Expr-F ExprTree → ExprTree
 expr_step (Expr-F.Search collection q fl by rows keys) =

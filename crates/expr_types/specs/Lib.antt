@@ -8,6 +8,7 @@ pub mod Conditions
 pub mod Rows
 pub mod Groups
 pub mod Joins
+pub mod Limits
 pub mod Rules
 pub mod Parts
 pub mod Lists

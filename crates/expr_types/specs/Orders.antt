@@ -1,6 +1,6 @@
 -- What the functions give that order tuples, over lists of documents (Solr Reference Guide, "Stream
 -- Decorator Reference", sort, top and merge).
-use Rattle.std.specs.Prelude.{◌≡◌, ℕ, List, map, take, ◌++◌}
+use Rattle.std.specs.Prelude.{◌≡◌, ℕ, List, [], ◌∷◌, map, take, ◌++◌, Bool, false}
 use Rattle.std.specs.List.{flat_map}
 use Rattle.tuple_values.specs.Document.{ByteList, Doc}
 use Rattle.sort_spec.specs.Sorting.{ins_sort, IsAscending}
@@ -25,3 +25,10 @@ pub record IsSortedOver (names : List ByteList) (docs : List Doc) : Type 0 where
   pub more : List SortTerm
   pub named : map (λ term. term.field) terms ≡ names
   pub ascends : IsAscending (less (terms ++ more)) docs
+
+-- names as a sort, each in the direction at its place, ascending where there is none
+abbrev pub sort_over : List ByteList → List Bool → List SortTerm
+sort_over [] directions = []
+sort_over (name ∷ names) [] = record { field = name; descending = false } ∷ sort_over names []
+sort_over (name ∷ names) (descending ∷ directions) =
+    record { field = name; descending = descending } ∷ sort_over names directions

@@ -1,13 +1,16 @@
 -- What is so of each function, in one row of a table (Solr Reference Guide, "Stream Source
 -- Reference" and "Stream Decorator Reference"; limits own).
 use Rattle.std.specs.Prelude.{ℕ, ◌≡◌, ◌==◌, nat_le, List, [], ◌∷◌, codes}
-use Rattle.std.specs.Prelude.{Bool, true, false, not, ◌&&◌, Option, Some, None, Ok}
+use Rattle.std.specs.Prelude.{Bool, true, false, not, ◌&&◌, Ok}
 use Rattle.std.specs.List.{AllByRecursion, list_all}
 use Rattle.tuple_values.specs.Document.{ByteList, Doc, is_named}
 use Rattle.query_syntax.specs.Reading.{read_of}
 use Rattle.sort_spec.specs.Sorting.{IsAscending}
 use Rattle.sort_spec.specs.Terms.{less}
+use Rattle.sort_spec.specs.declared.pair.OnPair.{OnPair}
+use Rattle.expr_types.specs.Joins.{join_list, outer_join_list, exist_list, IsJoinable}
 use Rattle.expr_types.specs.Sources.{search_list}
+use Rattle.expr_types.specs.Limits.{count_limit, row_limit, is_between, may_be_between}
 use Rattle.expr_types.specs.Orders.{sort_list, top_list, merge_list, IsSortedOver}
 use Rattle.expr_types.specs.Conditions.{having_list}
 use Rattle.expr_types.specs.Rows.{select_list}
@@ -15,28 +18,12 @@ use Rattle.expr_types.specs.Groups.{unique_list, reduce_list, rollup_list, metri
 use Rattle.expr_types.specs.ExprTree.{Operator, search, tuple, select, having, sort, top, unique}
 use Rattle.expr_types.specs.ExprTree.{merge, reduce, rollup, inner_join, left_outer_join, intersect}
 use Rattle.expr_types.specs.ExprTree.{complement, hash_join, outer_hash_join, in_parallel, topic}
-use Rattle.expr_types.specs.ExprTree.{update, commit, daemon, first_or, SearchParts, TopicParts}
+use Rattle.expr_types.specs.ExprTree.{update, commit, daemon, first_or, second_or}
+use Rattle.expr_types.specs.ExprTree.{SearchParts, TopicParts}
 
 -- the documents of each collection, by its name
 abbrev pub Collections : Type 0
 Collections = ByteList → List Doc
-
--- the greatest number of tuples that `top` and `group` may be asked for
-abbrev pub count_limit : ℕ
-count_limit = 1000000
-
--- the greatest number of rows
-abbrev pub row_limit : ℕ
-row_limit = 9223372036854775807
-
--- whether a number is within limits
-abbrev pub is_between : ℕ → ℕ → ℕ → Bool
-is_between low high n = nat_le low n && nat_le n high
-
--- whether a number that may be left out is within limits
-abbrev pub may_be_between : ℕ → ℕ → Option ℕ → Bool
-may_be_between low high None = true
-may_be_between low high (Some n) = is_between low high n
 
 -- what a function takes from elsewhere than its inputs
 pub data Source : Type 0 where
@@ -65,10 +52,23 @@ of_one work = record {
   source = no_source;
 }
 
+-- what goes once over two inputs, in whatever order
+abbrev pub of_two : (List Doc → List Doc → List Doc) → Rule
+of_two work = record {
+  gives = λ docs lists. work (first_or [] lists) (second_or [] lists);
+  Needs = λ lists. Unit {0};
+  is_well = λ inputs. inputs == 2;
+  source = no_source;
+}
+
 -- what needs its inputs sorted over names
 abbrev pub sorted_over : List ByteList → Rule → Rule
 sorted_over names rule =
     record rule { Needs = λ lists. AllByRecursion (IsSortedOver names) lists }
+
+-- what needs its two inputs in the order of pairs
+abbrev pub joined_on : List OnPair → Rule → Rule
+joined_on on rule = record rule { Needs = IsJoinable on }
 
 -- what a plan gives with such parameters alone
 abbrev pub only_where : Bool → Rule → Rule
@@ -114,12 +114,12 @@ rule_of (reduce by op) =
 rule_of (rollup over metrics) =
     only_where (list_all (λ m. not (is_named (metric_name m) over)) metrics)
     (sorted_over over (of_one (rollup_list over metrics)))
-rule_of (inner_join on) = not_yet
-rule_of (left_outer_join on) = not_yet
-rule_of (intersect on) = not_yet
-rule_of (complement on) = not_yet
-rule_of (hash_join on) = not_yet
-rule_of (outer_hash_join on) = not_yet
+rule_of (inner_join on) = joined_on on (of_two (join_list on))
+rule_of (left_outer_join on) = joined_on on (of_two (outer_join_list on))
+rule_of (intersect on) = joined_on on (of_two (exist_list true on))
+rule_of (complement on) = joined_on on (of_two (exist_list false on))
+rule_of (hash_join on) = of_two (join_list on)
+rule_of (outer_hash_join on) = of_two (outer_join_list on)
 rule_of (in_parallel collection workers by) = not_yet
 rule_of (topic p) = record not_yet { source = followed p }
 rule_of (update dest size) = not_yet

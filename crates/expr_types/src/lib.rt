@@ -5,6 +5,7 @@ mod condition;
 mod copying;
 mod expr;
 mod item;
+mod joining;
 mod naming;
 mod source_copies;
 #[cfg(test)]
@@ -13,3 +14,4 @@ mod tests;
 pub use condition::{Comparison, Condition, Conditions};
 pub use expr::{Expr, Exprs};
 pub use item::{GroupOp, Item, Items, Metric, Metrics};
+pub use joining::joined;

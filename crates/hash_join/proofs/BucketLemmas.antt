@@ -8,12 +8,12 @@ use Rattle.std.specs.Ordering.{is_eq}
 use Rattle.std.specs.declared.cmp.Ordering.{Ordering}
 use Rattle.std.specs.declared.cmp.Ordering.TheVariants.{Less, Equal, Greater}
 use Rattle.std.proofs.lemmas.List.{append_assoc, append-nil}
-use Rattle.tuple_values.specs.Document.{ByteList, Datum, Doc, over, value_at}
+use Rattle.tuple_values.specs.Document.{ByteList, Datum, Doc, value_at}
 use Rattle.tuple_values.specs.Order.{datum_cmp}
 use Rattle.tuple_values.proofs.KeyLemmas.{key_text-equal}
 use Rattle.tuple_values.proofs.OrderLemmas.{datum_cmp_same}
 use Rattle.sort_spec.specs.declared.pair.OnPair.{OnPair}
-use Rattle.expr_types.specs.Joins.{is_met, matches, or_these, pairs, alone_of}
+use Rattle.expr_types.specs.Joins.{is_met, matches, or_these, pairs, alone_of, joined}
 use Rattle.expr_types.specs.Joins.{join_list, outer_join_list}
 use Rattle.expr_types.proofs.JoinLemmas.{filter_past, pairs-kind}
 use Rattle.hash_join.specs.Buckets.{bucket_of, AddsUnder}
@@ -101,7 +101,7 @@ given-added outer on right old new rest [] adds = refl
 given-added outer on right old new rest (left ∷ lefts) adds =
     let one = filter-added on left right old new rest adds in
     let more = given-added outer on right old new rest lefts adds in
-    λ j. or_these (alone_of outer left) (map (over left) (one j)) ++ more j
+    λ j. or_these (alone_of outer left) (map (joined left) (one j)) ++ more j
 
 -- by an empty table they give what the definition does
 pub given-made : (outer : Bool) (on : List OnPair) (table : Table) (rights lefts : List Doc)
@@ -111,7 +111,7 @@ pub given-made : (outer : Bool) (on : List OnPair) (table : Table) (rights lefts
 given-made outer on table rights lefts empty = all lefts ∙ pairs-kind outer on lefts rights
   where
     all : (ls : List Doc)
-        → given_by outer on table rights ls ≡ pairs (alone_of outer) (matches on) over ls rights
+        → given_by outer on table rights ls ≡ pairs (alone_of outer) (matches on) joined ls rights
     all [] = refl
     all (l ∷ ls) =
         let none = empty (left_key on l) in

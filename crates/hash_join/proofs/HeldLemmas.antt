@@ -3,9 +3,9 @@ use Rattle.std.proofs.Common.{◌≡◌, ◌<◌, ◌≤◌, ◌+◌, ℕ, zero,
 use Rattle.std.proofs.Common.{drop, get_or, slice_get, length, option_to_list, Some, true}
 use Rattle.std.proofs.Common.{Bool, refl, ap, sym, ◌∙◌, add-one, arith}
 use Rattle.std.proofs.lemmas.Option.{slice_get_read}
-use Rattle.tuple_values.specs.Document.{Doc, over}
+use Rattle.tuple_values.specs.Document.{Doc}
 use Rattle.sort_spec.specs.declared.pair.OnPair.{OnPair}
-use Rattle.expr_types.specs.Joins.{matches}
+use Rattle.expr_types.specs.Joins.{matches, joined}
 use Rattle.hash_join.specs.Buckets.{bucket_at}
 use Rattle.hash_join.specs.Held.{equals_from, held_list}
 use Rattle.hash_join.specs.declared.held.Held.{Held}
@@ -31,33 +31,33 @@ module _ (on : List OnPair) (table : Table) (one : Held) (left : Doc) (bucket pl
     (rights : List Doc) (h : Paired left bucket place ≡ one)
     (b : rights ≡ bucket_at table bucket) where
   -- what is held is what the bucket gives from the place on
-  here : held_list on table one ≡ map (over left) (equals_from on left rights (Some place))
+  here : held_list on table one ≡ map (joined left) (equals_from on left rights (Some place))
   here =
       sym (ap (held_list on table) h)
-      ∙ ap (λ rs. map (over left) (equals_from on left rs (Some place))) (sym b)
+      ∙ ap (λ rs. map (joined left) (equals_from on left rs (Some place))) (sym b)
 
   -- past the end nothing is given
   pub none_given : (freed : Held) → length rights ≤ place → freed ≡ Nothing
       → held_list on table one ≡ held_list on table freed
   none_given freed past f =
-      here ∙ ap (map (over left)) (past_end (matches on left) rights place past)
+      here ∙ ap (map (joined left)) (past_end (matches on left) rights place past)
       ∙ sym (ap (held_list on table) f)
 
   -- the pair of the place comes first, and then those of the equals behind it
   pair_first : (right pair : Doc) (more : List Doc) → place < length rights
-      → right ≡ get_or rights place right → pair ≡ over left right
+      → right ≡ get_or rights place right → pair ≡ joined left right
       → filter (matches on left) (drop (place + 1) rights) ≡ more
-      → held_list on table one ≡ pair ∷ map (over left) more
+      → held_list on table one ≡ pair ∷ map (joined left) more
   pair_first right pair more within at p e =
       let first = slice_get_read rights (length rights) place right refl within at in
       let behind = ap (λ n. filter (matches on left) (drop n rights)) (sym (add-one place)) ∙ e in
       here
-      ∙ (λ j. map (over left) (option_to_list (first j) ++ behind j))
-      ∙ ap (λ w. w ∷ map (over left) more) (sym p)
+      ∙ (λ j. map (joined left) (option_to_list (first j) ++ behind j))
+      ∙ ap (λ w. w ∷ map (joined left) more) (sym p)
 
   -- the last pair leaves nothing
   pub last_given : (right pair : Doc) (freed : Held) → place < length rights
-      → right ≡ get_or rights place right → pair ≡ over left right
+      → right ≡ get_or rights place right → pair ≡ joined left right
       → filter (matches on left) (drop (place + 1) rights) ≡ [] → freed ≡ Nothing
       → held_list on table one ≡ pair ∷ held_list on table freed
   last_given right pair freed within at p e f =
@@ -66,10 +66,10 @@ module _ (on : List OnPair) (table : Table) (one : Held) (left : Doc) (bucket pl
 
   -- another leaves the left document, with the place of the next
   pub one_given : (right pair : Doc) (next : ℕ) → place < length rights
-      → right ≡ get_or rights place right → pair ≡ over left right
+      → right ≡ get_or rights place right → pair ≡ joined left right
       → filter (matches on left) (drop (place + 1) rights) ≡ equals_from on left rights (Some next)
       → held_list on table one
-      ≡ pair ∷ map (over left) (equals_from on left (bucket_at table bucket) (Some next))
+      ≡ pair ∷ map (joined left) (equals_from on left (bucket_at table bucket) (Some next))
   one_given right pair next within at p e =
       pair_first right pair (equals_from on left rights (Some next)) within at p e
-      ∙ ap (λ rs. pair ∷ map (over left) (equals_from on left rs (Some next))) b
+      ∙ ap (λ rs. pair ∷ map (joined left) (equals_from on left rs (Some next))) b

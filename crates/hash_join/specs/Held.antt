@@ -2,9 +2,9 @@
 -- given of the last one (own).
 use Rattle.std.specs.Prelude.{ℕ, suc, List, [], ◌∷◌, ◌++◌, map, filter, flat_map, drop, slice_get}
 use Rattle.std.specs.Prelude.{Bool, Option, Some, None, option_to_list}
-use Rattle.tuple_values.specs.Document.{Doc, over}
+use Rattle.tuple_values.specs.Document.{Doc}
 use Rattle.sort_spec.specs.declared.pair.OnPair.{OnPair}
-use Rattle.expr_types.specs.Joins.{matches, or_these, alone_of}
+use Rattle.expr_types.specs.Joins.{matches, or_these, alone_of, joined}
 use Rattle.hash_join.specs.Buckets.{bucket_of, bucket_at}
 use Rattle.hash_join.specs.JoinKeys.{left_key}
 use Rattle.hash_join.specs.declared.held.Held.{Held}
@@ -14,7 +14,7 @@ use Rattle.hash_join.specs.declared.table.Table.{Table}
 -- the left document over each of its equals, in order, and without one what it gives alone
 abbrev pub given_of : Bool → List OnPair → Doc → List Doc → List Doc
 given_of outer on left rights =
-    or_these (alone_of outer left) (map (over left) (filter (matches on left) rights))
+    or_these (alone_of outer left) (map (joined left) (filter (matches on left) rights))
 
 -- what left documents give of their buckets and of right documents that are still to come
 abbrev pub given_by : Bool → List OnPair → Table → List Doc → List Doc → List Doc
@@ -32,4 +32,4 @@ abbrev pub held_list : List OnPair → Table → Held → List Doc
 held_list on table Nothing = []
 held_list on table (Alone left) = left ∷ []
 held_list on table (Paired left bucket place) =
-    map (over left) (equals_from on left (bucket_at table bucket) (Some place))
+    map (joined left) (equals_from on left (bucket_at table bucket) (Some place))

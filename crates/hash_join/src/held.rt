@@ -10,6 +10,7 @@ ghost use Rattle.hash_join.specs.declared.table.Table as buckets;
 
 use crate::key_pairs::KeyPairs;
 use crate::table::Table;
+use expr_types::joined;
 use std::alloc::Global;
 use std::mem;
 use tuple_values::{Memory, Tuple};
@@ -104,9 +105,9 @@ pub(crate) fn give(
                 return Ok(None);
             };
             let Some(next) = next_equal(on, &left, rights, place + 1) else {
-                return Ok(Some(left.laid_over(alloc, right)?));
+                return Ok(Some(joined(alloc, left, right)?));
             };
-            let pair = left.over(alloc, right)?;
+            let pair = joined(alloc, left.copy(alloc)?, right)?;
             *held = Held::Paired {
                 left,
                 bucket,

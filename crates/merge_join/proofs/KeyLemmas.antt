@@ -16,7 +16,8 @@ use Rattle.sort_spec.specs.declared.pair.OnPair.{OnPair}
 use Rattle.sort_spec.specs.declared.term.SortTerm.{SortTerm}
 use Rattle.sort_spec.proofs.SortLemmas.{each_weaker}
 use Rattle.sort_spec.proofs.StableLemmas.{below}
-use Rattle.expr_types.specs.Joins.{is_met, matches}
+use Rattle.expr_types.specs.Joins.{is_met, matches, left_names, right_names}
+use Rattle.expr_types.specs.Orders.{sort_over}
 use Rattle.merge_join.specs.Keys.{Key, left_key, right_key, key_cmp, directed, order_of, meets}
 use Rattle.merge_join.specs.Keys.{left_order, right_order, terms_of}
 use Rattle.merge_join.specs.declared.term.JoinTerm.{JoinTerm}
@@ -196,3 +197,27 @@ none_less terms left lefts right e a =
     (eq_is (order_of terms left right) e)))
     ∙ sym (ap is_lt (left_cmp terms m left)) ∙ f)
     a.0
+
+-- with names as a sort in some directions the left documents are read in that sort
+pub left_order-sort_over : (on : List OnPair) (directions : List Bool)
+    → left_order (terms_of on (sort_over (left_names on) directions))
+    ≡ sort_over (left_names on) directions
+left_order-sort_over [] directions = refl
+left_order-sort_over (pair ∷ on) [] =
+    ap (λ (l : List SortTerm). record { field = pair.left; descending = false } ∷ l)
+    (left_order-sort_over on [])
+left_order-sort_over (pair ∷ on) (descending ∷ directions) =
+    ap (λ (l : List SortTerm). record { field = pair.left; descending = descending } ∷ l)
+    (left_order-sort_over on directions)
+
+-- and the right ones in the sort of the right names in these directions
+pub right_order-sort_over : (on : List OnPair) (directions : List Bool)
+    → right_order (terms_of on (sort_over (left_names on) directions))
+    ≡ sort_over (right_names on) directions
+right_order-sort_over [] directions = refl
+right_order-sort_over (pair ∷ on) [] =
+    ap (λ (l : List SortTerm). record { field = pair.right; descending = false } ∷ l)
+    (right_order-sort_over on [])
+right_order-sort_over (pair ∷ on) (descending ∷ directions) =
+    ap (λ (l : List SortTerm). record { field = pair.right; descending = descending } ∷ l)
+    (right_order-sort_over on directions)

@@ -6,7 +6,7 @@ use Rattle.std.specs.List.{AllByRecursion}
 use Rattle.std.specs.Ordering.{is_eq, is_lt, is_gt}
 use Rattle.std.specs.declared.cmp.Ordering.{Ordering}
 use Rattle.std.specs.declared.cmp.Ordering.TheVariants.{Less, Equal, Greater}
-use Rattle.tuple_values.specs.Document.{Doc, over}
+use Rattle.tuple_values.specs.Document.{Doc}
 use Rattle.sort_spec.specs.Sorting.{IsAscending}
 use Rattle.sort_spec.specs.Terms.{less}
 use Rattle.sort_spec.specs.declared.pair.OnPair.{OnPair}
@@ -15,7 +15,8 @@ use Rattle.sort_spec.proofs.SortLemmas.{each_weaker}
 use Rattle.kernel_laws.specs.Asks.{emitted}
 use Rattle.kernel_laws.specs.declared.ask.Ask.{Ask}
 use Rattle.kernel_laws.specs.declared.ask.Ask.TheVariants.{Emit}
-use Rattle.expr_types.specs.Joins.{alone_of, or_these, pairs, matches, join_list, outer_join_list}
+use Rattle.expr_types.specs.Joins.{alone_of, or_these, pairs, matches, joined}
+use Rattle.expr_types.specs.Joins.{join_list, outer_join_list}
 use Rattle.merge_join.specs.Keys.{left_order, right_order, right_key, key_cmp, order_of, meets}
 use Rattle.merge_join.specs.Keys.{terms_of}
 use Rattle.merge_join.specs.Runs.{pairs_from, AreEqual, AreOther, IsKept, is_behind}
@@ -49,7 +50,7 @@ past_run outer terms place left lefts [] after rights e n a k = absurd (cc)
 past_run outer terms place left lefts (r ∷ run) after rights e n a k =
     let more : order_of terms left r ≡ Greater = gt_is (order_of terms left r) e in
     ap (drop place)
-    (pairs-let_go (alone_of outer) (meets terms) over (left ∷ lefts) (r ∷ run) rights (
+    (pairs-let_go (alone_of outer) (meets terms) joined (left ∷ lefts) (r ∷ run) rights (
       none_before terms left lefts r more a,
       each_weaker (λ q. key_cmp terms (right_key r) (right_key q) ≡ Equal)
           (λ q. AllByRecursion (λ l. meets terms l q ≡ false) (left ∷ lefts)) run
@@ -114,7 +115,7 @@ past_right outer terms place (Some one) left lefts run (Some held) None first ri
     let here : left ≡ one = cc in
     let same : first ≡ held = cc in
     ap (drop place)
-    (pairs-skip (alone_of outer) (meets terms) over (one ∷ lefts) run held rights
+    (pairs-skip (alone_of outer) (meets terms) joined (one ∷ lefts) run held rights
     (none_before terms one lefts held
     (sym (ap (λ w. order_of terms w held) here) ∙ sym (ap (order_of terms left) same) ∙ e)
     m.left_ascends))
@@ -148,13 +149,13 @@ module _ (outer : Bool) (terms : List JoinTerm) (one : Option Doc) (left : Doc) 
   -- its pairs, and what those behind it give
   abbrev paired : List Doc
   paired =
-      or_these (alone_of outer left) (map (over left) run)
-      ++ pairs (alone_of outer) (meets terms) over lefts (run ++ rights)
+      or_these (alone_of outer left) (map (joined left) run)
+      ++ pairs (alone_of outer) (meets terms) joined lefts (run ++ rights)
 
   -- that is what there is
-  all_paired : pairs (alone_of outer) (meets terms) over (left ∷ lefts) (run ++ rights) ≡ paired
+  all_paired : pairs (alone_of outer) (meets terms) joined (left ∷ lefts) (run ++ rights) ≡ paired
   all_paired =
-      pairs-whole (alone_of outer) (meets terms) over left lefts run rights here.run_fits whole
+      pairs-whole (alone_of outer) (meets terms) joined left lefts run rights here.run_fits whole
 
   -- without the pairs that were given
   given : pairs_from outer terms place (flow one lefts) (run ++ rights) ≡ drop place paired
@@ -164,17 +165,17 @@ module _ (outer : Bool) (terms : List JoinTerm) (one : Option Doc) (left : Doc) 
 
   -- the next pair comes first
   pair_first : (right pair : Doc) → place < length run → right ≡ get_or run place right
-      → pair ≡ over left right
+      → pair ≡ joined left right
       → pairs_from outer terms place (flow one lefts) (run ++ rights)
       ≡ pair ∷ drop (suc place) paired
   pair_first right pair b r p =
       given
-      ∙ these-one (alone_of outer left) (over left) run _ place right b
-      ∙ ap (λ w. w ∷ drop (suc place) paired) (sym (p ∙ ap (over left) r))
+      ∙ these-one (alone_of outer left) (joined left) run _ place right b
+      ∙ ap (λ w. w ∷ drop (suc place) paired) (sym (p ∙ ap (joined left) r))
 
   -- it is given, and the left document stays for the one after that
   pub one_given : (right pair : Doc) → place < length run → right ≡ get_or run place right
-      → pair ≡ over left right
+      → pair ≡ joined left right
       → pairs_from outer terms place (flow one lefts) (run ++ rights)
       ≡ pair ∷ pairs_from outer terms (place + 1) (left ∷ lefts) (run ++ rights)
   one_given right pair b r p =
@@ -185,14 +186,14 @@ module _ (outer : Bool) (terms : List JoinTerm) (one : Option Doc) (left : Doc) 
 
   -- the last pair is given
   pub last_given : (right pair : Doc) (freed : Option Doc) → place < length run
-      → length run ≤ place + 1 → right ≡ get_or run place right → pair ≡ over left right
+      → length run ≤ place + 1 → right ≡ get_or run place right → pair ≡ joined left right
       → freed ≡ None
       → pairs_from outer terms place (flow one lefts) (run ++ rights)
       ≡ pair ∷ pairs_from outer terms 0 (flow freed lefts) (run ++ rights)
   last_given right pair freed b e r p f =
       pair_first right pair b r p
       ∙ ap (λ w. pair ∷ w)
-      (these-last (alone_of outer left) (over left) run _ place (omega arith))
+      (these-last (alone_of outer left) (joined left) run _ place (omega arith))
       ∙ sym (ap (λ o. pair ∷ pairs_from outer terms 0 (flow o lefts) (run ++ rights)) f)
 
   -- a left document without an equal gives what it gives alone
@@ -215,9 +216,9 @@ module _ (outer : Bool) (terms : List JoinTerm) (one : Option Doc) (left : Doc) 
 
       none_left : (others : List Doc) (place : ℕ) → length others ≤ place
           → (0 < place → (place < length others) × AreOther terms left rights)
-          → drop place (or_these (alone_of outer left) (map (over left) others)
-          ++ pairs (alone_of outer) (meets terms) over lefts (run ++ rights))
-          ≡ alone_of outer left ++ pairs (alone_of outer) (meets terms) over lefts (run ++ rights)
+          → drop place (or_these (alone_of outer left) (map (joined left) others)
+          ++ pairs (alone_of outer) (meets terms) joined lefts (run ++ rights))
+          ≡ alone_of outer left ++ pairs (alone_of outer) (meets terms) joined lefts (run ++ rights)
       none_left [] zero b g = refl
       none_left [] (suc n) b g = absurd (let l = (g (omega arith)).0 in omega arith)
       none_left (x ∷ xs) zero b g = absurd (omega arith)
@@ -245,6 +246,6 @@ made_join outer on order terms one other run lefts rights e f g h =
     ∙ ap (λ w. pairs_from outer terms 0 lefts (run ++ flow w rights)) g
     ∙ ap (λ w. pairs_from outer terms 0 lefts (w ++ rights)) h
     ∙ ap (λ ts. pairs_from outer ts 0 lefts rights) e
-    ∙ pairs-same (alone_of outer) (meets (terms_of on order)) (matches on) over
+    ∙ pairs-same (alone_of outer) (meets (terms_of on order)) (matches on) joined
     (meets-matches on order) lefts rights
     ∙ pairs-kind outer on lefts rights

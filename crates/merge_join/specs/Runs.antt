@@ -4,10 +4,10 @@ use Rattle.std.specs.Prelude.{Option, Some, None}
 use Rattle.std.specs.List.{AllByRecursion}
 use Rattle.std.specs.Ordering.{is_lt, is_gt}
 use Rattle.std.specs.declared.cmp.Ordering.TheVariants.{Equal}
-use Rattle.tuple_values.specs.Document.{Doc, over}
+use Rattle.tuple_values.specs.Document.{Doc}
 use Rattle.sort_spec.specs.Sorting.{IsAscending}
 use Rattle.sort_spec.specs.Terms.{less}
-use Rattle.expr_types.specs.Joins.{alone_of, pairs}
+use Rattle.expr_types.specs.Joins.{alone_of, pairs, joined}
 use Rattle.merge_join.specs.Keys.{left_order, right_order, right_key, key_cmp, order_of, meets}
 use Rattle.merge_join.specs.Sides.{flow}
 use Rattle.merge_join.specs.declared.term.JoinTerm.{JoinTerm}
@@ -15,7 +15,7 @@ use Rattle.merge_join.specs.declared.term.JoinTerm.{JoinTerm}
 -- what documents that are to come give, without so many that were given
 abbrev pub pairs_from : Bool → List JoinTerm → ℕ → List Doc → List Doc → List Doc
 pairs_from outer terms place lefts rights =
-    drop place (pairs (alone_of outer) (meets terms) over lefts rights)
+    drop place (pairs (alone_of outer) (meets terms) joined lefts rights)
 
 -- each of the right documents equals the left one
 abbrev pub AreEqual : List JoinTerm → Doc → List Doc → Type 0

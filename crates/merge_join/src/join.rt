@@ -14,6 +14,7 @@ ghost use Rattle.merge_join.specs.declared.term.JoinTerm.{JoinTerm};
 
 use crate::side::{Side, next_left};
 use crate::term::{JoinTerms, compare_by, terms_of};
+use expr_types::joined;
 use kernel_laws::{Ask, Kernel};
 use sort_spec::{OnSpec, SortSpec};
 use std::alloc::Global;
@@ -231,12 +232,12 @@ fn give(
         return Ok(alone(outer, tuple, left.ended));
     };
     if *place + 1 < run.len() {
-        let pair = tuple.over(alloc, right)?;
+        let pair = joined(alloc, tuple.copy(alloc)?, right)?;
         *place += 1;
         left.held = Some(tuple);
         return Ok(Ask::Emit(pair));
     }
-    let last = tuple.laid_over(alloc, right)?;
+    let last = joined(alloc, tuple, right)?;
     *place = 0;
     Ok(Ask::Emit(last))
 }

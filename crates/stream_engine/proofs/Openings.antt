@@ -1,28 +1,94 @@
 -- The streams of an expression's inputs, one after another.
-use Rattle.std.proofs.Common.{◌≡◌, ℕ, suc, ◌+◌, ◌<◌, List, [], ◌∷◌, ◌++◌, length, get_or, drop}
-use Rattle.std.proofs.Common.{refl, ap, sym, ◌∙◌, subst, append_assoc}
+use Rattle.std.proofs.Common.{◌≡◌, ℕ, suc, ◌+◌, ◌<◌, List, [], ◌∷◌, ◌++◌, length, get_or, drop, Bool}
+use Rattle.std.proofs.Common.{true, None, refl, ap, sym, ◌∙◌, subst, append_assoc, arith}
 use Rattle.std.specs.Prelude.{slice_index_or, Result, Ok, Err, IfOk}
 use Rattle.std.specs.List.{AllByRecursion}
+use Rattle.std.specs.Option.{option_or}
 use Rattle.std.proofs.lemmas.List.{at_drop_more, map-append}
 use Rattle.tuple_values.specs.Document.{ByteList, Doc}
-use Rattle.expr_types.specs.ExprTree.{ExprTree, inputs_of, inputs_in, operator_in, first_or}
+use Rattle.sort_spec.specs.Sorting.{IsAscending}
+use Rattle.sort_spec.specs.Terms.{less}
+use Rattle.sort_spec.specs.declared.pair.OnPair.{OnPair}
+use Rattle.sort_spec.specs.declared.term.SortTerm.{SortTerm}
+use Rattle.expr_types.specs.ExprTree.{Operator, ExprTree, inputs_of, inputs_in, operator_in}
+use Rattle.expr_types.specs.ExprTree.{expr_list, first_or, second_or}
+use Rattle.expr_types.specs.Joins.{AreJoinable, left_names}
 use Rattle.expr_types.specs.Rules.{Collections, given, AreAsNeeded}
-use Rattle.expr_types.specs.Lists.{list_of, lists_of, AreSorted}
-use Rattle.expr_types.specs.Lists.{AreAllSorted}
-use Rattle.expr_types.specs.Orders.{IsSortedOver}
+use Rattle.expr_types.specs.Lists.{list_of, lists_of}
+use Rattle.expr_types.specs.Orders.{IsSortedOver, sort_over}
+use Rattle.expr_types.specs.Planned.{AreWell, AreAllWell}
 use Rattle.expr_types.proofs.TreeLemmas.{node-parts}
+use Rattle.expr_check.specs.Orders.{AreInOrder}
+use Rattle.expr_check.specs.Rules.{fault_at}
+use Rattle.expr_check.specs.Walk.{orders_of, own_fault, faults_where}
+use Rattle.expr_check.specs.declared.order.Order.{Order}
+use Rattle.expr_check.proofs.FaultLemmas.{none_first, none_second}
+use Rattle.expr_check.proofs.LawLemmas.{hold_all, needs_hold}
+use Rattle.expr_check.proofs.WalkLemmas.{fault_where-parts}
+use Rattle.merge_join.specs.Keys.{left_order, right_order, terms_of}
+use Rattle.merge_join.proofs.KeyLemmas.{left_order-sort_over, right_order-sort_over}
 use Rattle.stream_engine.specs.Flows.{Flow, rests_of}
+
+-- an expression without a fault has none of its own, and none in its inputs
+fault_parts : (t : ExprTree) → own_fault t ≡ None
+    → (fault_at (λ name. true) (operator_in t) (orders_of (inputs_of (inputs_in t))) ≡ None)
+    × (faults_where (λ name. true) (inputs_of (inputs_in t)) ≡ None)
+fault_parts t none =
+    let own = fault_at (λ name. true) (operator_in t) (orders_of (inputs_of (inputs_in t))) in
+    let inner = faults_where (λ name. true) (inputs_of (inputs_in t)) in
+    let both : option_or own inner ≡ None = sym (fault_where-parts (λ name. true) t) ∙ none in
+    (none_first own inner both, none_second own inner both)
 
 -- the list of an expression is that of its operator over the lists of its inputs
 pub list_of-parts : (docs : Collections) (t : ExprTree)
     → list_of docs t ≡ given docs (operator_in t) (lists_of docs (inputs_of (inputs_in t)))
 list_of-parts docs t = ap (list_of docs) (sym (node-parts t))
 
--- its inputs are in order, and their lists are as its operator needs them
-pub sorted_parts : (docs : Collections) (t : ExprTree) → AreSorted docs t
-    → AreAllSorted docs (inputs_of (inputs_in t))
-    × AreAsNeeded (operator_in t) (lists_of docs (inputs_of (inputs_in t)))
-sorted_parts docs t s = subst (AreSorted docs) (sym (node-parts t)) s
+-- what is known of an operator over inputs of these orders, with these lists
+pub record IsReadyOver (op : Operator) (orders : List Order) (lists : List (List Doc)) : Type 0 where
+  pub sorted : AreAsNeeded op lists
+  pub faultless : fault_at (λ name. true) op orders ≡ None
+  pub in_order : AreInOrder orders lists
+
+-- it holds of the operator of an expression without a fault
+pub ready_over : (docs : Collections) (t : ExprTree) → AreWell t → own_fault t ≡ None
+    → IsReadyOver (operator_in t) (orders_of (inputs_of (inputs_in t)))
+    (lists_of docs (inputs_of (inputs_in t)))
+ready_over docs t well none =
+    let op = operator_in t in
+    let inputs = inputs_of (inputs_in t) in
+    let parts = subst AreWell (sym (node-parts t)) well in
+    let here = fault_parts t none in
+    let held = hold_all docs inputs parts.1.1 here.1 in
+    record {
+      sorted =
+          needs_hold op (length (expr_list inputs)) (orders_of inputs) (lists_of docs inputs)
+          parts.0 here.0 held.1;
+      faultless = here.0;
+      in_order = held.1;
+    }
+
+-- also of orders and lists that are found
+pub ready_found : (docs : Collections) (t : ExprTree) (orders : List Order)
+    (lists : List (List Doc)) → AreWell t → own_fault t ≡ None
+    → orders ≡ orders_of (inputs_of (inputs_in t))
+    → lists ≡ lists_of docs (inputs_of (inputs_in t))
+    → IsReadyOver (operator_in t) orders lists
+ready_found docs t orders lists well none are gives =
+    subst (λ (l : List (List Doc)). IsReadyOver (operator_in t) orders l) (sym gives)
+    (subst
+    (λ (o : List Order).
+    IsReadyOver (operator_in t) o (lists_of docs (inputs_of (inputs_in t))))
+    (sym are) (ready_over docs t well none))
+
+-- the inputs of an expression that a plan gives are such
+pub well_inputs : (t : ExprTree) → AreWell t → AreAllWell (inputs_of (inputs_in t))
+well_inputs t well = (subst AreWell (sym (node-parts t)) well).1.1
+
+-- and have no fault where it has none
+pub faultless_inputs : (t : ExprTree) → own_fault t ≡ None
+    → faults_where (λ name. true) (inputs_of (inputs_in t)) ≡ None
+faultless_inputs t none = (fault_parts t none).1
 
 -- the expressions from a place on are the one there and the rest
 from_place : (exprs : List ExprTree) (k : ℕ) (e : ExprTree) → k < length exprs
@@ -30,12 +96,23 @@ from_place : (exprs : List ExprTree) (k : ℕ) (e : ExprTree) → k < length exp
 from_place exprs k e lt is =
     at_drop_more (λ rest. rest) exprs k e lt ∙ ap (λ x. x ∷ drop (k + 1) exprs) (sym is)
 
--- where those from a place on are in order, so are the one there and the rest
-pub sorted_more : (docs : Collections) (exprs : List ExprTree) (k : ℕ) (e : ExprTree)
-    → k < length exprs → e ≡ get_or exprs k e → AreAllSorted docs (inputs_of (drop k exprs))
-    → AreSorted docs e × AreAllSorted docs (inputs_of (drop (k + 1) exprs))
-sorted_more docs exprs k e lt is s =
-    subst (λ rest. AreAllSorted docs (inputs_of rest)) (from_place exprs k e lt is) s
+-- where those from a place on are such as a plan gives, so are the one there and the rest
+pub well_more : (exprs : List ExprTree) (k : ℕ) (e : ExprTree) → k < length exprs
+    → e ≡ get_or exprs k e → AreAllWell (inputs_of (drop k exprs))
+    → AreWell e × AreAllWell (inputs_of (drop (k + 1) exprs))
+well_more exprs k e lt is well =
+    subst (λ rest. AreAllWell (inputs_of rest)) (from_place exprs k e lt is) well
+
+-- where they have no fault, neither has the one there nor the rest
+pub faultless_more : (exprs : List ExprTree) (k : ℕ) (e : ExprTree) → k < length exprs
+    → e ≡ get_or exprs k e → faults_where (λ name. true) (inputs_of (drop k exprs)) ≡ None
+    → (own_fault e ≡ None)
+    × (faults_where (λ name. true) (inputs_of (drop (k + 1) exprs)) ≡ None)
+faultless_more exprs k e lt is none =
+    let rest = faults_where (λ name. true) (inputs_of (drop (k + 1) exprs)) in
+    let both : option_or (own_fault e) rest ≡ None =
+    sym (ap (λ l. faults_where (λ name. true) (inputs_of l)) (from_place exprs k e lt is)) ∙ none in
+    (none_first (own_fault e) rest both, none_second (own_fault e) rest both)
 
 -- what the streams so far and one more give, and what the inputs to come give, is all
 pub rests_more : (docs : Collections) (exprs : List ExprTree) (k : ℕ) (e : ExprTree)
@@ -90,3 +167,32 @@ pub at_lists : {S E : Type 0} (r : Result S E) (Says : S → List (List Doc) →
     → IfOk r (λ s. Says s lists)
 at_lists (Ok s) Says lists h = h lists
 at_lists (Err e) Says lists h = h
+
+-- two streams give the first and the second rest
+pub two_rests : (flows : List Flow) → length flows ≡ 2
+    → rests_of flows ≡ first_or [] (rests_of flows) ∷ second_or [] (rests_of flows) ∷ []
+two_rests [] two = absurd (cc)
+two_rests (f ∷ []) two = absurd (omega arith)
+two_rests (f ∷ g ∷ []) two = refl
+two_rests (f ∷ g ∷ h ∷ flows) two = absurd (omega arith)
+
+-- a kernel is ready for what two streams give, where it is ready for the first and the second list
+pub two_ready : (Ready : List (List Doc) → Type 0) (flows : List Flow) → length flows ≡ 2
+    → Ready (first_or [] (rests_of flows) ∷ second_or [] (rests_of flows) ∷ [])
+    → Ready (rests_of flows)
+two_ready Ready flows two ready = subst Ready (sym (two_rests flows two)) ready
+
+-- inputs that may be joined are in the orders with which the kernel reads them
+pub read_orders : (on : List OnPair) (directions : List Bool) (order : List SortTerm)
+    (lists : List (List Doc)) → order ≡ sort_over (left_names on) directions
+    → AreJoinable on directions lists
+    → IsAscending (less (left_order (terms_of on order))) (first_or [] lists)
+    × IsAscending (less (right_order (terms_of on order))) (second_or [] lists)
+read_orders on directions order lists is joinable = (
+  subst (λ (l : List SortTerm). IsAscending (less l) (first_or [] lists))
+      (sym (ap (λ o. left_order (terms_of on o)) is ∙ left_order-sort_over on directions))
+      joinable.lefts,
+  subst (λ (l : List SortTerm). IsAscending (less l) (second_or [] lists))
+      (sym (ap (λ o. right_order (terms_of on o)) is ∙ right_order-sort_over on directions))
+      joinable.rights,
+)

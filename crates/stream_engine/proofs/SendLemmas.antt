@@ -14,6 +14,9 @@ use Rattle.order_kernels.specs.contracts.top_state.TopKernel as TopKernel
 use Rattle.group_kernels.specs.contracts.reduce.ReduceKernel as ReduceKernel
 use Rattle.group_kernels.specs.contracts.rollup.RollupKernel as RollupKernel
 use Rattle.group_kernels.specs.contracts.unique.UniqueKernel as UniqueKernel
+use Rattle.merge_join.specs.contracts.exist.ExistKernel as ExistKernel
+use Rattle.merge_join.specs.contracts.join.JoinKernel as JoinKernel
+use Rattle.hash_join.specs.contracts.join.HashJoinKernel as HashJoinKernel
 use Rattle.stream_engine.specs.contracts.any_kernel.AnyKernel as AnyKernel
 use Rattle.stream_engine.specs.contracts.stream.Stream as Stream
 use Rattle.stream_engine.proofs.stream.Stream.TheLaws.TheKnot as streams
@@ -51,6 +54,15 @@ rollup_send = search (tuples.crosses, heap.crosses, sendable) depth 60 fits 2000
 pub unique_send : IsSend UniqueKernel.the_row
 unique_send = search (tuples.crosses, heap.crosses, sendable) depth 60 fits 20000
 
+pub join_send : IsSend JoinKernel.the_row
+join_send = search (tuples.crosses, heap.crosses, sendable) depth 60 fits 20000
+
+pub exist_send : IsSend ExistKernel.the_row
+exist_send = search (tuples.crosses, heap.crosses, sendable) depth 60 fits 20000
+
+pub hash_send : IsSend HashJoinKernel.the_row
+hash_send = search (tuples.crosses, heap.crosses, sendable) depth 60 fits 20000
+
 pub kernel_send : IsSend AnyKernel.the_row
 kernel_send =
     variants_send AnyKernel.enum (
@@ -61,7 +73,16 @@ kernel_send =
           (sort_send, tt),
           (
             (top_send, tt),
-            ((merge_send, tt), ((unique_send, tt), ((reduce_send, tt), ((rollup_send, tt), tt)))),
+            (
+              (merge_send, tt),
+              (
+                (unique_send, tt),
+                (
+                  (reduce_send, tt),
+                  ((rollup_send, tt), ((join_send, tt), ((exist_send, tt), ((hash_send, tt), tt)))),
+                ),
+              ),
+            ),
           ),
         ),
       ),

@@ -4,7 +4,9 @@ ghost use Rattle.stream_engine.specs.Kernels.{any_ended, any_waits, any_ready, a
 ghost use Rattle.stream_engine.specs.Kernels.{any_over, any_failed};
 
 use group_kernels::{ReduceKernel, RollupKernel, UniqueKernel};
+use hash_join::HashJoinKernel;
 use kernel_laws::{Ask, Kernel};
+use merge_join::{ExistKernel, JoinKernel};
 use order_kernels::{MergeKernel, SortKernel, TopKernel};
 use row_kernels::{HavingKernel, SelectKernel};
 use tuple_values::{Memory, Tuple};
@@ -20,6 +22,9 @@ pub(crate) enum AnyKernel {
     Unique(UniqueKernel),
     Reduce(ReduceKernel),
     Rollup(RollupKernel),
+    Join(JoinKernel),
+    Exist(ExistKernel),
+    Hash(HashJoinKernel),
 }
 
 #[tactic(auto, unfolding(crate::specs::Kernels::any_ended, crate::specs::Kernels::any_waits, crate::specs::Kernels::any_ready, crate::specs::Kernels::any_out, crate::specs::Kernels::any_over, crate::specs::Kernels::any_failed))]
@@ -48,6 +53,9 @@ impl Kernel for AnyKernel {
             AnyKernel::Unique(kernel) => kernel.inputs(),
             AnyKernel::Reduce(kernel) => kernel.inputs(),
             AnyKernel::Rollup(kernel) => kernel.inputs(),
+            AnyKernel::Join(kernel) => kernel.inputs(),
+            AnyKernel::Exist(kernel) => kernel.inputs(),
+            AnyKernel::Hash(kernel) => kernel.inputs(),
         }
     }
 
@@ -61,6 +69,9 @@ impl Kernel for AnyKernel {
             AnyKernel::Unique(kernel) => kernel.ask(),
             AnyKernel::Reduce(kernel) => kernel.ask(),
             AnyKernel::Rollup(kernel) => kernel.ask(),
+            AnyKernel::Join(kernel) => kernel.ask(),
+            AnyKernel::Exist(kernel) => kernel.ask(),
+            AnyKernel::Hash(kernel) => kernel.ask(),
         }
     }
 
@@ -74,6 +85,9 @@ impl Kernel for AnyKernel {
             AnyKernel::Unique(kernel) => kernel.feed(input, tuple),
             AnyKernel::Reduce(kernel) => kernel.feed(input, tuple),
             AnyKernel::Rollup(kernel) => kernel.feed(input, tuple),
+            AnyKernel::Join(kernel) => kernel.feed(input, tuple),
+            AnyKernel::Exist(kernel) => kernel.feed(input, tuple),
+            AnyKernel::Hash(kernel) => kernel.feed(input, tuple),
         }
     }
 }

@@ -1,11 +1,14 @@
 // Streams of kernels over their inputs.
-ghost use Rattle.std.specs.Prelude.{◌≡◌, List, [], ◌∷◌, length, IfOk, false};
+ghost use Rattle.std.specs.Prelude.{◌≡◌, List, [], ◌∷◌, length, IfOk, false, if◌then◌else◌};
 ghost use Rattle.std.specs.List.{AllByRecursion};
 ghost use Rattle.tuple_values.specs.Document.{Doc};
 ghost use Rattle.sort_spec.specs.Sorting.{IsAscending};
 ghost use Rattle.sort_spec.specs.Terms.{less};
 ghost use Rattle.expr_types.specs.ConditionViews.{condition_tree};
 ghost use Rattle.expr_types.specs.Conditions.{having_list};
+ghost use Rattle.expr_check.specs.Orders.{directions_of};
+ghost use Rattle.expr_types.specs.ExprTree.{first_or, second_or};
+ghost use Rattle.expr_types.specs.Joins.{join_list, outer_join_list, exist_list, AreJoinable};
 ghost use Rattle.expr_types.specs.Groups.{unique_list, reduce_list, rollup_list};
 ghost use Rattle.expr_types.specs.Orders.{sort_list, top_list, merge_list, IsSortedOver};
 ghost use Rattle.expr_types.specs.Rows.{select_list};
@@ -14,11 +17,14 @@ ghost use Rattle.stream_engine.specs.Kernels.{any_out, any_ready, any_ended};
 
 use crate::Stream;
 use crate::any_kernel::AnyKernel;
+use expr_check::{Order, join_order};
 use expr_types::{Condition, GroupOp, Items, Metrics};
 use group_kernels::{ReduceKernel, RollupKernel, UniqueKernel};
+use hash_join::HashJoinKernel;
+use merge_join::{ExistKernel, JoinKernel};
 use order_kernels::{MergeKernel, SortKernel, TopKernel};
 use row_kernels::{HavingKernel, SelectKernel};
-use sort_spec::SortSpec;
+use sort_spec::{OnSpec, SortSpec};
 use std::alloc::Global;
 use tuple_values::{FieldList, Memory};
 
@@ -129,4 +135,67 @@ pub(crate) fn merge(alloc: Global, inputs: Vec<Stream>, on: &SortSpec) -> Result
     };
     let kernel = MergeKernel::make(alloc, count, on)?;
     Ok(Stream::over(AnyKernel::Merge(kernel), inputs))
+}
+
+/// The stream of an inner join, or of an outer one, over a left and a right input of these orders.
+#[tactic(auto, unfolding(crate::specs::Kernels::any_ended, crate::specs::Kernels::any_ready, crate::specs::Kernels::any_out))]
+pub(crate) fn join(
+    alloc: Global,
+    outer: bool,
+    inputs: Vec<Stream>,
+    on: &OnSpec,
+    orders: &[Order],
+) -> Result<Stream, Memory>
+    requires two { length inputs.items ≡ 2 }
+    requires sorted { AreJoinable on.now (directions_of orders.now) (rests_of inputs.items) }
+    ensures list { IfOk result (λ stream.
+        let lefts = first_or [] (rests_of inputs.items) in
+        let rights = second_or [] (rests_of inputs.items) in stream.0
+        ≡ (if outer then outer_join_list on.now lefts rights
+        else join_list on.now lefts rights)) }
+    ensures lives { IfOk result (λ stream. stream.2 ≡ false) }
+{
+    let order = join_order(alloc, on, orders)?;
+    let kernel = JoinKernel::make(alloc, outer, on, &order)?;
+    Ok(Stream::over(AnyKernel::Join(kernel), inputs))
+}
+
+/// The stream of an intersect where `keep` is set, else of a complement.
+#[tactic(auto, unfolding(crate::specs::Kernels::any_ended, crate::specs::Kernels::any_ready, crate::specs::Kernels::any_out))]
+pub(crate) fn exist(
+    alloc: Global,
+    keep: bool,
+    inputs: Vec<Stream>,
+    on: &OnSpec,
+    orders: &[Order],
+) -> Result<Stream, Memory>
+    requires two { length inputs.items ≡ 2 }
+    requires sorted { AreJoinable on.now (directions_of orders.now) (rests_of inputs.items) }
+    ensures list { IfOk result (λ stream. stream.0 ≡ exist_list keep on.now
+        (first_or [] (rests_of inputs.items)) (second_or [] (rests_of inputs.items))) }
+    ensures lives { IfOk result (λ stream. stream.2 ≡ false) }
+{
+    let order = join_order(alloc, on, orders)?;
+    let kernel = ExistKernel::make(alloc, keep, on, &order)?;
+    Ok(Stream::over(AnyKernel::Exist(kernel), inputs))
+}
+
+/// The stream of a hash join, or of an outer one, over an input and the one that is hashed.
+#[tactic(auto, unfolding(crate::specs::Kernels::any_ended, crate::specs::Kernels::any_ready, crate::specs::Kernels::any_out))]
+pub(crate) fn hash_join(
+    alloc: Global,
+    outer: bool,
+    inputs: Vec<Stream>,
+    on: &OnSpec,
+) -> Result<Stream, Memory>
+    requires { length inputs.items ≡ 2 }
+    ensures list { IfOk result (λ stream.
+        let lefts = first_or [] (rests_of inputs.items) in
+        let rights = second_or [] (rests_of inputs.items) in stream.0
+        ≡ (if outer then outer_join_list on.now lefts rights
+        else join_list on.now lefts rights)) }
+    ensures lives { IfOk result (λ stream. stream.2 ≡ false) }
+{
+    let kernel = HashJoinKernel::make(alloc, outer, on)?;
+    Ok(Stream::over(AnyKernel::Hash(kernel), inputs))
 }

@@ -180,6 +180,13 @@ pub fn drain(alloc: Global, stream: Stream) -> Result<Tuples, Memory>
     ensures { IfOk result (λ tuples. tuples ≡ stream.0) }
 {
     let mut stream = stream;
+    read_all(alloc, &mut stream)
+}
+
+// Reads a stream to its end.
+fn read_all(alloc: Global, stream: &mut Stream) -> Result<Tuples, Memory>
+    ensures { IfOk result (λ tuples. tuples ≡ stream.old.0) }
+{
     let mut tuples = Tuples::empty(alloc);
     while let Some(tuple) = stream.read()? {
         tuples.push(tuple)?;

@@ -5,7 +5,7 @@ use Rattle.tuple_values.specs.Document.{ByteList}
 use Rattle.expr_types.specs.ExprTree.{inputs_in, inputs_of}
 use Rattle.expr_types.specs.ExprTree.{expr_tree}
 use Rattle.expr_check.specs.Walk.{order_of, orders_of, fields_of, all_fields, faults_where}
-use Rattle.expr_check.proofs.WalkLemmas.{fault_found, fields_of-parts, inputs_more}
+use Rattle.expr_check.proofs.WalkLemmas.{fault_found, fields_of-parts, order_of-parts, inputs_more}
 use Rattle.expr_check.proofs.WalkLemmas.{faults_more}
 use Rattle.expr_check.proofs.walk.+walking.Goals as goal
 
@@ -34,6 +34,18 @@ walk_inputs-loop-k-preserved t c =
           c.in_ok-walked.walked.fault lt (c.input.ensures.value _) c.in_ok-walked.ensures.fault
           c.loop-k.invariant.fault;
     }
+
+pub walk-returns-clause-order : goal.walk-returns-clause-order
+walk-returns-clause-order t c =
+    cc (
+      c.in_ok-order.ensures,
+      c.in_ok-orders.ensures.orders,
+      c.in_ok-orders.orders-is,
+      c.in_ok-orders.ensures.fields,
+      c.in_ok-orders.fields-is,
+      c.as_slice-2.ensures.value,
+      order_of-parts (expr_tree c.args.expr.now),
+    )
 
 pub walk-returns-clause-fields : goal.walk-returns-clause-fields
 walk-returns-clause-fields t c =

@@ -8,5 +8,5 @@ use Rattle.expr_plan.proofs.planning.+planning.Given as goal
 -- the inputs so far and those to come are all
 abbrev pub invariant-plan_inputs-loop-k : goal.invariant-plan_inputs-loop-k
 invariant-plan_inputs-loop-k l =
-    inputs_planned l.function (trees_of l.args)
-    ≡ behind (map expr_tree l.inputs) (inputs_planned l.function (trees_of (drop l.k l.args)))
+    inputs_planned l.place l.function (trees_of l.args)
+    ≡ behind (map expr_tree l.inputs) (inputs_planned l.place l.function (trees_of (drop l.k l.args)))

@@ -7,5 +7,5 @@ use Rattle.expr_plan.proofs.walk.inputs_found.Given as goal
 abbrev pub invariant-loop-k : goal.invariant-loop-k
 invariant-loop-k l =
     (l.found ≤ l.k)
-    × (l.found + inputs_found l.function (trees_of (drop l.k l.args))
-    ≡ inputs_found l.function (trees_of l.args))
+    × (l.found + inputs_found l.place l.function (trees_of (drop l.k l.args))
+    ≡ inputs_found l.place l.function (trees_of l.args))

@@ -1,4 +1,6 @@
-use Rattle.std.proofs.Common.{sym}
+use Rattle.std.proofs.Common.{sym, ap, ◌∙◌}
+use Rattle.tuple_values.specs.Document.{Doc}
+use Rattle.expr_types.specs.Joins.{joined}
 use Rattle.merge_join.proofs.RunLemmas.{one_given, last_given, alone_given, left_done}
 use Rattle.merge_join.proofs.join.give.Goals as goal
 
@@ -14,7 +16,9 @@ returns-then-place-run-clause-out c = λ terms lefts rights midway whole.
     one_given c.args.outer terms c.args.left.now.held c.in-Some.tuple c.args.place.now
     c.args.run.now lefts rights (sym c.in-Some.ensures.value) midway whole
     c.in-Some-get.right.now c.in_ok-pair.pair c.in-Some-get.ensures.lookup.3.0
-    c.in-Some-get.ensures.lookup.1 c.in_ok-pair.ensures
+    c.in-Some-get.ensures.lookup.1
+    (c.in_ok-pair.ensures
+    ∙ ap (λ (left : Doc). joined left c.in-Some-get.right.now) c.in_ok-copy.ensures)
 
 pub returns-clause-out : goal.returns-clause-out
 returns-clause-out c = λ terms lefts rights midway whole.

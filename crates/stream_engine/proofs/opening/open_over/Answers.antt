@@ -1,6 +1,9 @@
-use Rattle.std.proofs.Common.{◌≡◌, [], ◌∷◌, ◌∙◌, ap, sym, subst, length, map}
+use Rattle.std.proofs.Common.{◌≡◌, ℕ, [], ◌∷◌, ◌∙◌, ap, sym, subst, length, map, true, None, codes}
 use Rattle.expr_types.specs.ExprTree.{ExprTree, node, merge, reduce, rollup, inputs_of, inputs_in}
-use Rattle.expr_types.specs.ExprTree.{operator_in}
+use Rattle.expr_types.specs.ExprTree.{operator_in, inner_join, left_outer_join, intersect}
+use Rattle.expr_types.specs.ExprTree.{complement, hash_join, outer_hash_join}
+use Rattle.expr_check.specs.Rules.{fault_at}
+use Rattle.expr_check.proofs.JoinLemmas.{joinable}
 use Rattle.expr_types.specs.ExprTree.{expr_tree, expr_step}
 use Rattle.expr_types.specs.Rules.{Collections, given, AreAsNeeded}
 use Rattle.expr_types.specs.Orders.{IsSortedOver}
@@ -53,6 +56,96 @@ rollup-requires c =
     let one = c.requires.width ∙ ap (λ (t : ExprTree). length (inputs_in t)) whole in
     subst (IsSortedOver over) (sym c.only-in-Rollup.ensures)
     (first_sorted over c.args.inputs.items one sorted)
+
+pub join-requires : goal.join-requires
+join-requires c =
+    let left = c.in-InnerJoin.left in
+    let right = c.in-InnerJoin.right in
+    let on = c.in-InnerJoin.on in
+    let whole : expr_tree c.args.expr.now
+    ≡ node (inner_join on) (inputs_of (expr_tree left.value ∷ expr_tree right.value ∷ [])) =
+    rw c.in-InnerJoin.is (ap expr_tree (sym (expr.rolls-InnerJoin left right on))
+    ∙ fold-roll-Expr ExprTree expr_step (Expr-F.InnerJoin left right on)) in
+    record {
+      two = c.requires.width ∙ ap (λ (t : ExprTree). length (inputs_in t)) whole;
+      sorted =
+          joinable (codes "innerJoin") on c.args.orders.now (rests_of c.args.inputs.items)
+          (sym (ap (λ (t : ExprTree). fault_at (λ name. true) (operator_in t) c.args.orders.now) whole)
+          ∙ c.requires.faultless) c.requires.in_order;
+    }
+
+pub join-requires-in-LeftOuterJoin : goal.join-requires-in-LeftOuterJoin
+join-requires-in-LeftOuterJoin c =
+    let left = c.in-LeftOuterJoin.left in
+    let right = c.in-LeftOuterJoin.right in
+    let on = c.in-LeftOuterJoin.on in
+    let whole : expr_tree c.args.expr.now
+    ≡ node (left_outer_join on) (inputs_of (expr_tree left.value ∷ expr_tree right.value ∷ [])) =
+    rw c.in-LeftOuterJoin.is (ap expr_tree (sym (expr.rolls-LeftOuterJoin left right on))
+    ∙ fold-roll-Expr ExprTree expr_step (Expr-F.LeftOuterJoin left right on)) in
+    record {
+      two = c.requires.width ∙ ap (λ (t : ExprTree). length (inputs_in t)) whole;
+      sorted =
+          joinable (codes "leftOuterJoin") on c.args.orders.now (rests_of c.args.inputs.items)
+          (sym (ap (λ (t : ExprTree). fault_at (λ name. true) (operator_in t) c.args.orders.now) whole)
+          ∙ c.requires.faultless) c.requires.in_order;
+    }
+
+pub exist-requires : goal.exist-requires
+exist-requires c =
+    let left = c.in-Intersect.left in
+    let right = c.in-Intersect.right in
+    let on = c.in-Intersect.on in
+    let whole : expr_tree c.args.expr.now
+    ≡ node (intersect on) (inputs_of (expr_tree left.value ∷ expr_tree right.value ∷ [])) =
+    rw c.in-Intersect.is (ap expr_tree (sym (expr.rolls-Intersect left right on))
+    ∙ fold-roll-Expr ExprTree expr_step (Expr-F.Intersect left right on)) in
+    record {
+      two = c.requires.width ∙ ap (λ (t : ExprTree). length (inputs_in t)) whole;
+      sorted =
+          joinable (codes "intersect") on c.args.orders.now (rests_of c.args.inputs.items)
+          (sym (ap (λ (t : ExprTree). fault_at (λ name. true) (operator_in t) c.args.orders.now) whole)
+          ∙ c.requires.faultless) c.requires.in_order;
+    }
+
+pub exist-requires-in-Complement : goal.exist-requires-in-Complement
+exist-requires-in-Complement c =
+    let left = c.in-Complement.left in
+    let right = c.in-Complement.right in
+    let on = c.in-Complement.on in
+    let whole : expr_tree c.args.expr.now
+    ≡ node (complement on) (inputs_of (expr_tree left.value ∷ expr_tree right.value ∷ [])) =
+    rw c.in-Complement.is (ap expr_tree (sym (expr.rolls-Complement left right on))
+    ∙ fold-roll-Expr ExprTree expr_step (Expr-F.Complement left right on)) in
+    record {
+      two = c.requires.width ∙ ap (λ (t : ExprTree). length (inputs_in t)) whole;
+      sorted =
+          joinable (codes "complement") on c.args.orders.now (rests_of c.args.inputs.items)
+          (sym (ap (λ (t : ExprTree). fault_at (λ name. true) (operator_in t) c.args.orders.now) whole)
+          ∙ c.requires.faultless) c.requires.in_order;
+    }
+
+pub hash_join-requires : goal.hash_join-requires
+hash_join-requires c =
+    let input = c.in-HashJoin.input in
+    let hashed = c.in-HashJoin.hashed in
+    let on = c.in-HashJoin.on in
+    let whole : expr_tree c.args.expr.now
+    ≡ node (hash_join on) (inputs_of (expr_tree input.value ∷ expr_tree hashed.value ∷ [])) =
+    rw c.in-HashJoin.is (ap expr_tree (sym (expr.rolls-HashJoin input hashed on))
+    ∙ fold-roll-Expr ExprTree expr_step (Expr-F.HashJoin input hashed on)) in
+    c.requires.width ∙ ap (λ (t : ExprTree). length (inputs_in t)) whole
+
+pub hash_join-requires-in-OuterHashJoin : goal.hash_join-requires-in-OuterHashJoin
+hash_join-requires-in-OuterHashJoin c =
+    let input = c.in-OuterHashJoin.input in
+    let hashed = c.in-OuterHashJoin.hashed in
+    let on = c.in-OuterHashJoin.on in
+    let whole : expr_tree c.args.expr.now
+    ≡ node (outer_hash_join on) (inputs_of (expr_tree input.value ∷ expr_tree hashed.value ∷ [])) =
+    rw c.in-OuterHashJoin.is (ap expr_tree (sym (expr.rolls-OuterHashJoin input hashed on))
+    ∙ fold-roll-Expr ExprTree expr_step (Expr-F.OuterHashJoin input hashed on)) in
+    c.requires.width ∙ ap (λ (t : ExprTree). length (inputs_in t)) whole
 
 pub returns-in-Search-clause-list : goal.returns-in-Search-clause-list
 returns-in-Search-clause-list c =

@@ -8,3 +8,7 @@ pub returns-clause-sorted : goal.returns-clause-sorted
 returns-clause-sorted c = λ docs.
     (holds_of docs (expr_tree c.args.self.now.expr) c.args.self.now.planned.0
     (is_none-None (own_fault (expr_tree c.args.self.now.expr)) c.args.self.now.met)).0
+
+pub returns-clause-faultless : goal.returns-clause-faultless
+returns-clause-faultless c =
+    is_none-None (own_fault (expr_tree c.args.self.now.expr)) c.args.self.now.met

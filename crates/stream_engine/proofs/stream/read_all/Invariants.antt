@@ -1,5 +1,5 @@
 use Rattle.std.proofs.Common.{◌≡◌, ◌++◌, length}
-use Rattle.stream_engine.proofs.stream.drain.Given as goal
+use Rattle.stream_engine.proofs.stream.read_all.Given as goal
 
 -- the tuples so far and those to come are all
 abbrev pub invariant-loop-tuples : goal.invariant-loop-tuples
