@@ -7,7 +7,7 @@ use Rattle.shard_versions.specs.declared.cut.CutMark.{CutMark}
 use Rattle.exchange_rules.specs.Cells.{Log, author_of, signed}
 use Rattle.exchange_rules.specs.declared.log_entry.LogEntry.{LogEntry}
 use Rattle.exchange_rules.specs.Courses.{Course, ends, looks, makes, run_alone}
-use Rattle.exchange_rules.specs.Acts.{Act, a_look, a_step, at_mark, IsLook, had_after}
+use Rattle.exchange_rules.specs.Accesses.{Access, a_look, a_step, at_mark, IsLook, had_after}
 use Rattle.exchange_rules.specs.Following.{IsNext, rest_after, Follows, Grows, Writer, counts, Answers}
 use Rattle.exchange_rules.specs.Own.{IsAlone}
 
@@ -114,18 +114,18 @@ alone_own me seen had c k lt alone d =
       | inr e ↦ subst P (sym e) (alone d)
     ]
 
--- what an act of a writer that is alone leaves to be done, and to be seen
+-- what an access of a writer that is alone leaves to be done, and to be seen
 record Stepped {A : Type 0} (me : ℕ) (seen : List Log) (had : List ℕ) (p : Course A)
-    (act : Act)
+    (access : Access)
     : Type 0 where
-  still : IsAlone me (had_after had act) seen
+  still : IsAlone me (had_after had access) seen
   run : run_alone me (shown had seen) p
-      ≡ run_alone me (shown (had_after had act) seen) (rest_after seen p act)
+      ≡ run_alone me (shown (had_after had access) seen) (rest_after seen p access)
 
--- by cases of the course and the act
-stepped : {A : Type 0} (me : ℕ) (seen : List Log) (had : List ℕ) (p : Course A) (act : Act)
-    → IsAlone me had seen → IsNext me seen had p act → Stepped me seen had p act
-stepped me seen had (ends a) act alone n = absurd n
+-- by cases of the course and the access
+stepped : {A : Type 0} (me : ℕ) (seen : List Log) (had : List ℕ) (p : Course A) (access : Access)
+    → IsAlone me had seen → IsNext me seen had p access → Stepped me seen had p access
+stepped me seen had (ends a) access alone n = absurd n
 stepped me seen had (looks c f) (a_step o) alone n = absurd n
 stepped me seen had (makes c s p) (a_look m) alone n = absurd n
 stepped me seen had (looks c f) (a_look m) alone n =
@@ -161,28 +161,28 @@ stepped me seen had (makes c s p) (a_step o) alone n =
           ∙ ap (λ x. run_alone me (shown x seen) p) (sym after));
     }
 
--- acts of a writer that is alone go on as the course runs over what it has seen
+-- accesses of a writer that is alone go on as the course runs over what it has seen
 pub follows_alone : {A : Type 0} (me : ℕ) (seen : List Log) (had : List ℕ) (p : Course A)
-    (acts : List Act) (q : Course A) (end : List ℕ) → IsAlone me had seen
-    → Follows me seen had p acts q end
+    (accesses : List Access) (q : Course A) (end : List ℕ) → IsAlone me had seen
+    → Follows me seen had p accesses q end
     → run_alone me (shown had seen) p ≡ run_alone me (shown end seen) q
 follows_alone me seen had p [] q end alone f =
     ap (λ x. run_alone me (shown had seen) x) (sym f.0)
     ∙ ap (λ x. run_alone me (shown x seen) q) (sym f.1)
-follows_alone me seen had p (act ∷ acts) q end alone f =
-    let s = stepped me seen had p act alone f.0 in
+follows_alone me seen had p (access ∷ accesses) q end alone f =
+    let s = stepped me seen had p access alone f.0 in
     s.run
-    ∙ follows_alone me seen (had_after had act)
-    (rest_after seen p act) acts q end s.still f.1
+    ∙ follows_alone me seen (had_after had access)
+    (rest_after seen p access) accesses q end s.still f.1
 
 -- and it is alone after them
 pub alone_after : {A : Type 0} (me : ℕ) (seen : List Log) (had : List ℕ) (p : Course A)
-    (acts : List Act) (q : Course A) (end : List ℕ) → IsAlone me had seen
-    → Follows me seen had p acts q end → IsAlone me end seen
+    (accesses : List Access) (q : Course A) (end : List ℕ) → IsAlone me had seen
+    → Follows me seen had p accesses q end → IsAlone me end seen
 alone_after me seen had p [] q end alone f = subst (λ h. IsAlone me h seen) (sym f.1) alone
-alone_after me seen had p (act ∷ acts) q end alone f =
-    let s = stepped me seen had p act alone f.0 in
-    alone_after me seen (had_after had act) (rest_after seen p act) acts q end s.still f.1
+alone_after me seen had p (access ∷ accesses) q end alone f =
+    let s = stepped me seen had p access alone f.0 in
+    alone_after me seen (had_after had access) (rest_after seen p access) accesses q end s.still f.1
 
 -- all entries of each cell are the logs
 shown_all : (seen : List Log) → shown (counts seen) seen ≡ seen
@@ -207,7 +207,7 @@ pub answers_alone : {A : Type 0} (old new : Writer) (p : Course A) (a : A)
     → IsAlone old.me (counts old.seen) new.seen → Answers old new p a
     → run_alone old.me old.seen p ≡ (new.seen, a)
 answers_alone old new p a alone r =
-    let e = follows_alone old.me new.seen (counts old.seen) p r.acts (ends a) (counts new.seen)
+    let e = follows_alone old.me new.seen (counts old.seen) p r.accesses (ends a) (counts new.seen)
     alone r.followed in
     ap (λ x. run_alone old.me x p) (sym (shown_old old.seen new.seen r.grown))
     ∙ (e ∙ ap (λ x. (x, a)) (shown_all new.seen))

@@ -11,7 +11,7 @@ use Rattle.shard_versions.specs.declared.cut.OwnMark.{OwnMark}
 use Rattle.exchange_rules.specs.declared.log_entry.LogEntry.{LogEntry}
 use Rattle.exchange_rules.specs.Cells.{Log, Payload, author_of, signed, signed_by, write, bind, store}
 use Rattle.exchange_rules.specs.Courses.{Course, ends, looks, makes}
-use Rattle.exchange_rules.specs.Acts.{Act, a_look, a_step, own_of, at_own, between, IsLook, IsOwn, had_after}
+use Rattle.exchange_rules.specs.Accesses.{Access, a_look, a_step, own_of, at_own, between, IsLook, IsOwn, had_after}
 use Rattle.exchange_rules.specs.Following.{rest_after, Follows}
 use Rattle.exchange_rules.specs.Own.{by_writer, own_entries, step_at, steps_at}
 use Rattle.exchange_rules.proofs.AloneLemmas.{drop_take, drop_more}
@@ -168,11 +168,11 @@ step_counted me seen had d s o own end c n k =
           }
     ]
 
--- acts that follow a course: the writer's entries are just the own steps, at each cell
+-- accesses that follow a course: the writer's entries are just the own steps, at each cell
 pub follows_counted : {A : Type 0} (me : ℕ) (seen : List Log) (had : List ℕ) (p : Course A)
-    (acts : List Act) (q : Course A) (end : List ℕ) (c : ℕ)
-    → Follows me seen had p acts q end
-    → IsCounted me seen had end (own_of acts) c
+    (accesses : List Access) (q : Course A) (end : List ℕ) (c : ℕ)
+    → Follows me seen had p accesses q end
+    → IsCounted me seen had end (own_of accesses) c
 follows_counted me seen had p [] q end c f =
     let h = get_or seen c [] in
     let e : get_or end c 0 ≡ get_or had c 0 = ap (λ x. get_or x c 0) f.1 in
@@ -181,15 +181,15 @@ follows_counted me seen had p [] q end c f =
       counted = ap (λ x. by_writer me (between (get_or had c 0) x h)) e
           ∙ ap (by_writer me) (none_between (get_or had c 0) h);
     }
-follows_counted me seen had (ends a) (act ∷ acts) q end c f = absurd f.0
-follows_counted me seen had (looks d see) (a_step o ∷ acts) q end c f = absurd f.0
-follows_counted me seen had (makes d s p) (a_look m ∷ acts) q end c f = absurd f.0
-follows_counted me seen had (looks d see) (a_look m ∷ acts) q end c f =
-    let act = a_look m in
-    look_counted me seen had d m (own_of acts) end c f.0
-    (follows_counted me seen (had_after had act)
-    (rest_after seen (looks d see) act) acts q end c
+follows_counted me seen had (ends a) (access ∷ accesses) q end c f = absurd f.0
+follows_counted me seen had (looks d see) (a_step o ∷ accesses) q end c f = absurd f.0
+follows_counted me seen had (makes d s p) (a_look m ∷ accesses) q end c f = absurd f.0
+follows_counted me seen had (looks d see) (a_look m ∷ accesses) q end c f =
+    let access = a_look m in
+    look_counted me seen had d m (own_of accesses) end c f.0
+    (follows_counted me seen (had_after had access)
+    (rest_after seen (looks d see) access) accesses q end c
     f.1)
-follows_counted me seen had (makes d s p) (a_step o ∷ acts) q end c f =
-    step_counted me seen had d s o (own_of acts) end c f.0
-    (follows_counted me seen (had_after had (a_step o)) p acts q end c f.1)
+follows_counted me seen had (makes d s p) (a_step o ∷ accesses) q end c f =
+    step_counted me seen had d s o (own_of accesses) end c f.0
+    (follows_counted me seen (had_after had (a_step o)) p accesses q end c f.1)

@@ -4,7 +4,7 @@ use Rattle.std.proofs.lemmas.List.{take-append-le, drop-append-le}
 use Rattle.shard_versions.specs.declared.cut.CutMark.{CutMark}
 use Rattle.shard_versions.specs.declared.cut.OwnMark.{OwnMark}
 use Rattle.exchange_rules.specs.Cells.{Log}
-use Rattle.exchange_rules.specs.Acts.{at_mark, at_own}
+use Rattle.exchange_rules.specs.Accesses.{at_mark, at_own}
 use Rattle.exchange_rules.specs.Following.{Grows, counts}
 
 -- the second log goes on from the first

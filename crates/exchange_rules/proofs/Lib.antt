@@ -1,5 +1,5 @@
 pub mod GrowthLemmas
-pub mod ToldLemmas
+pub mod RecordedLemmas
 pub mod FollowLemmas
 pub mod ReachLemmas
 pub mod AppendedLemmas

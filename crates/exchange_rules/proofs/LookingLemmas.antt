@@ -14,7 +14,7 @@ use Rattle.topic_book.specs.Cells.{cell_of}
 use Rattle.topic_book.specs.Fitness.{shards_of}
 use Rattle.exchange_rules.specs.Cells.{Log, history_in}
 use Rattle.exchange_rules.specs.Courses.{Course, ends, looks, makes, and_then, unless_refused, and_ok}
-use Rattle.exchange_rules.specs.Acts.{Act, a_look, a_step, had_after}
+use Rattle.exchange_rules.specs.Accesses.{Access, a_look, a_step, had_after}
 use Rattle.exchange_rules.specs.Following.{rest_after, Follows}
 use Rattle.exchange_rules.specs.Looking.{LooksFirst, IsBehind, AreBehind}
 use Rattle.exchange_rules.specs.Steps.{closed, is_full, fitting, write_course, commit_unless}
@@ -36,27 +36,27 @@ behind had cell at (Some m) o e i c f =
     let here = subst (λ x. IsLast had x (Some m)) e i in
     (c ∙ sym here.0, f ∙ here.1)
 
--- the steps of acts that follow a course which looks first stand behind their looks
+-- the steps of accesses that follow a course which looks first stand behind their looks
 pub follows_behind : {A : Type 0} (me : ℕ) (seen : List Log) (had : List ℕ) (p : Course A)
-    (acts : List Act) (q : Course A) (end : List ℕ) (at : Option ℕ) (last : Option CutMark)
-    → LooksFirst at p → IsLast had at last → Follows me seen had p acts q end
-    → AreBehind last acts
+    (accesses : List Access) (q : Course A) (end : List ℕ) (at : Option ℕ) (last : Option CutMark)
+    → LooksFirst at p → IsLast had at last → Follows me seen had p accesses q end
+    → AreBehind last accesses
 follows_behind me seen had p [] q end at last g i f = tt
-follows_behind me seen had (ends a) (act ∷ acts) q end at last g i f = absurd f.0
-follows_behind me seen had (looks c see) (a_step o ∷ acts) q end at last g i f = absurd f.0
-follows_behind me seen had (makes c step p) (a_look m ∷ acts) q end at last g i f = absurd f.0
-follows_behind me seen had (looks c see) (a_look m ∷ acts) q end at last g i f =
-    let act = a_look m in
+follows_behind me seen had (ends a) (access ∷ accesses) q end at last g i f = absurd f.0
+follows_behind me seen had (looks c see) (a_step o ∷ accesses) q end at last g i f = absurd f.0
+follows_behind me seen had (makes c step p) (a_look m ∷ accesses) q end at last g i f = absurd f.0
+follows_behind me seen had (looks c see) (a_look m ∷ accesses) q end at last g i f =
+    let access = a_look m in
     let lt : m.cell < length had = subst (λ x. x < length had) (sym f.0.cell_is) f.0.known in
     let now : get_or (set had m.cell m.upto) c 0 ≡ m.upto =
     ap (λ x. get_or (set had m.cell m.upto) x 0) (sym f.0.cell_is)
     ∙ get_or-set_same had m.cell m.upto 0 lt in
-    let rest = rest_after seen (looks c see) act in
-    follows_behind me seen (had_after had act) rest acts q end (Some c) (Some m) (g _)
+    let rest = rest_after seen (looks c see) access in
+    follows_behind me seen (had_after had access) rest accesses q end (Some c) (Some m) (g _)
     (f.0.cell_is, now) f.1
-follows_behind me seen had (makes c step p) (a_step o ∷ acts) q end at last g i f = (
+follows_behind me seen had (makes c step p) (a_step o ∷ accesses) q end at last g i f = (
   behind had c at last o g.0 i f.0.cell_is f.0.from,
-  follows_behind me seen (had_after had (a_step o)) p acts q end None None g.1 tt f.1,
+  follows_behind me seen (had_after had (a_step o)) p accesses q end None None g.1 tt f.1,
 )
 
 -- a course that looks first does so after any look

@@ -3,7 +3,7 @@ use Rattle.std.specs.Prelude.{ℕ, ◌+◌, ◌≡◌, Bool, false, not, count_b
 use Rattle.shard_versions.specs.Histories.{is_mark}
 use Rattle.exchange_rules.specs.declared.log_entry.LogEntry.{LogEntry}
 use Rattle.exchange_rules.specs.Courses.{Course, ends}
-use Rattle.exchange_rules.specs.Acts.{own_of, at_owns}
+use Rattle.exchange_rules.specs.Accesses.{own_of, at_owns}
 use Rattle.exchange_rules.specs.Following.{Writer, Reaches, Answers}
 use Rattle.exchange_rules.specs.declared.log_entry.LogEntry.TheVariants as logged
 use Rattle.exchange_rules.specs.declared.fault.SiteFault.{SiteFault}
@@ -19,7 +19,7 @@ is_write (logged.Book e) = false
 pub record HasAppended {A : Type 0} (old new : Writer) (course rest : Course A) (writes : ℕ)
     : Type 0 where
   pub reached : Reaches old new course rest
-  pub counted : writes ≡ count_by is_write (at_owns new.seen (own_of reached.acts))
+  pub counted : writes ≡ count_by is_write (at_owns new.seen (own_of reached.accesses))
 
 -- a call stopped in its course for want of memory, when so many writes were appended: those before
 -- the call and its own

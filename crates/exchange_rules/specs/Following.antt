@@ -4,32 +4,32 @@ use Rattle.shard_versions.specs.declared.cut.CutMark.{CutMark}
 use Rattle.shard_versions.specs.declared.cut.OwnMark.{OwnMark}
 use Rattle.exchange_rules.specs.Cells.{Log}
 use Rattle.exchange_rules.specs.Courses.{Course, ends, looks, makes}
-use Rattle.exchange_rules.specs.Acts.{Act, a_look, a_step, marks_of, own_of, at_mark, IsLook, IsOwn, had_after, looks_at}
+use Rattle.exchange_rules.specs.Accesses.{Access, a_look, a_step, marks_of, own_of, at_mark, IsLook, IsOwn, had_after, looks_at}
 
--- the act is what the course does next
-abbrev pub IsNext : {A : Type 0} → ℕ → List Log → List ℕ → Course A → Act → Type 0
-IsNext me seen had (ends a) act = ⊥
+-- the access is what the course does next
+abbrev pub IsNext : {A : Type 0} → ℕ → List Log → List ℕ → Course A → Access → Type 0
+IsNext me seen had (ends a) access = ⊥
 IsNext me seen had (looks cell see) (a_look m) = IsLook me seen had cell m
 IsNext me seen had (looks cell see) (a_step o) = ⊥
 IsNext me seen had (makes cell step rest) (a_look m) = ⊥
 IsNext me seen had (makes cell step rest) (a_step o) = IsOwn me seen had cell step o
 
--- what is left of the course after the act: a look goes on by what its mark shows
-abbrev pub rest_after : {A : Type 0} → List Log → Course A → Act → Course A
-rest_after seen (ends a) act = ends a
+-- what is left of the course after the access: a look goes on by what its mark shows
+abbrev pub rest_after : {A : Type 0} → List Log → Course A → Access → Course A
+rest_after seen (ends a) access = ends a
 rest_after seen (looks cell see) (a_look m) = see (at_mark seen m)
 rest_after seen (looks cell see) (a_step o) = looks cell see
 rest_after seen (makes cell step rest) (a_look m) = makes cell step rest
 rest_after seen (makes cell step rest) (a_step o) = rest
 
--- the acts follow the course down to this rest, by a writer that had seen so many entries of
+-- the accesses follow the course down to this rest, by a writer that had seen so many entries of
 -- each cell before and so many at the end
 abbrev pub Follows : {A : Type 0}
-    → ℕ → List Log → List ℕ → Course A → List Act → Course A → List ℕ → Type 0
+    → ℕ → List Log → List ℕ → Course A → List Access → Course A → List ℕ → Type 0
 Follows me seen had course [] rest end = (rest ≡ course) × (end ≡ had)
-Follows me seen had course (act ∷ acts) rest end =
-    IsNext me seen had course act
-    × Follows me seen (had_after had act) (rest_after seen course act) acts rest end
+Follows me seen had course (access ∷ accesses) rest end =
+    IsNext me seen had course access
+    × Follows me seen (had_after had access) (rest_after seen course access) accesses rest end
 
 -- there are as many cells, and each log begins as it was before
 abbrev pub Grows : List Log → List Log → Type 0
@@ -55,18 +55,18 @@ cleared w = record w { marks = []; own = [] }
 abbrev pub counts : List Log → List ℕ
 counts logs = map length logs
 
--- from old to new the writer did acts that follow the course down to this rest: its record
+-- from old to new the writer did accesses that follow the course down to this rest: its record
 -- gained just their marks and own marks, and its count of looks at each cell rose by the number of
 -- marks
 pub record Reaches {A : Type 0} (old new : Writer) (course rest : Course A) : Type 0 where
   pub same : new.me ≡ old.me
   pub grown : Grows old.seen new.seen
-  pub acts : List Act
-  pub marks : new.marks ≡ old.marks ++ marks_of acts
-  pub own : new.own ≡ old.own ++ own_of acts
+  pub accesses : List Access
+  pub marks : new.marks ≡ old.marks ++ marks_of accesses
+  pub own : new.own ≡ old.own ++ own_of accesses
   pub looked : (cell : ℕ)
-      → get_or new.looks cell 0 ≡ get_or old.looks cell 0 + looks_at cell (marks_of acts)
-  pub followed : Follows old.me new.seen (counts old.seen) course acts rest (counts new.seen)
+      → get_or new.looks cell 0 ≡ get_or old.looks cell 0 + looks_at cell (marks_of accesses)
+  pub followed : Follows old.me new.seen (counts old.seen) course accesses rest (counts new.seen)
 
 -- the writer followed the whole course, which has this answer
 abbrev pub Answers : {A : Type 0} → Writer → Writer → Course A → A → Type 0

@@ -2,17 +2,17 @@
 use Rattle.std.specs.Prelude.{ℕ, ◌≡◌, List, None}
 use Rattle.exchange_rules.specs.Cells.{Log}
 use Rattle.exchange_rules.specs.Courses.{Course, and_then, run_alone}
-use Rattle.exchange_rules.specs.Acts.{Act, own_of}
+use Rattle.exchange_rules.specs.Accesses.{Access, own_of}
 use Rattle.exchange_rules.specs.Following.{Follows, Grows, Writer, counts, Reaches, Answers}
 use Rattle.exchange_rules.specs.Own.{IsAlone, own_entries, steps_at}
 use Rattle.exchange_rules.specs.Looking.{LooksFirst, AreBehind}
 
--- acts that follow a course over what a writer has seen follow it over all that it sees later
+-- accesses that follow a course over what a writer has seen follow it over all that it sees later
 abbrev pub FollowingStays : Type 0 → Type 0
 FollowingStays A =
-    (me : ℕ) (seen later : List Log) (had : List ℕ) (course : Course A) (acts : List Act)
+    (me : ℕ) (seen later : List Log) (had : List ℕ) (course : Course A) (accesses : List Access)
     (rest : Course A) (end : List ℕ) → Grows seen later
-    → Follows me seen had course acts rest end → Follows me later had course acts rest end
+    → Follows me seen had course accesses rest end → Follows me later had course accesses rest end
 
 -- a writer that followed a course down to its rest, and then the rest, followed the course
 abbrev pub FollowingJoins : Type 0 → Type 0
@@ -35,15 +35,15 @@ RunsAlone A =
     → run_alone old.me old.seen course ≡ (new.seen, answer)
 
 -- what the writer appended to a cell is just what its own marks say, each step once and in order
-abbrev pub OwnStepsAreTold : Type 0 → Type 0
-OwnStepsAreTold A =
+abbrev pub OwnStepsAreRecorded : Type 0 → Type 0
+OwnStepsAreRecorded A =
     (old new : Writer) (course rest : Course A) (r : Reaches old new course rest) (cell : ℕ)
     → own_entries old.me new.seen (counts old.seen) (counts new.seen) cell
-    ≡ steps_at cell new.seen (own_of r.acts)
+    ≡ steps_at cell new.seen (own_of r.accesses)
 
 -- a writer that followed a course which looks first: each step is right behind what the look
 -- before it showed of its cell
 abbrev pub StepsAreLookedAt : Type 0 → Type 0
 StepsAreLookedAt A =
     (old new : Writer) (course rest : Course A) → LooksFirst None course
-    → (r : Reaches old new course rest) → AreBehind None r.acts
+    → (r : Reaches old new course rest) → AreBehind None r.accesses

@@ -1,6 +1,6 @@
 pub mod Cells
 pub mod Courses
-pub mod Acts
+pub mod Accesses
 pub mod Following
 pub mod Primitives
 pub mod Calls
@@ -11,4 +11,4 @@ pub mod Bindings
 pub mod Own
 pub mod Looking
 pub mod Laws
-pub mod Told
+pub mod Recorded

@@ -8,7 +8,7 @@ use Rattle.topic_book.specs.declared.topic.TopicKey.{TopicKey}
 use Rattle.topic_book.specs.declared.topic.Binding.{Binding}
 use Rattle.exchange_rules.specs.Cells.{Log}
 use Rattle.exchange_rules.specs.Courses.{Course, ends, looks, makes}
-use Rattle.exchange_rules.specs.Acts.{Act, a_look, a_step}
+use Rattle.exchange_rules.specs.Accesses.{Access, a_look, a_step}
 use Rattle.exchange_rules.specs.Bindings.{topic_state_course, bind_course, store_course}
 use Rattle.exchange_rules.specs.Deliveries.{send_course}
 use Rattle.exchange_rules.specs.declared.batch.BatchItem.{BatchItem}
@@ -28,10 +28,10 @@ IsBehind (Some m) o = (o.cell ≡ m.cell) × (o.from ≡ m.upto)
 
 -- each own mark begins where the mark right before it, which is of its cell, ends; this is the
 -- last one
-abbrev pub AreBehind : Option CutMark → List Act → Type 0
+abbrev pub AreBehind : Option CutMark → List Access → Type 0
 AreBehind last [] = Unit {0}
-AreBehind last (a_look m ∷ acts) = AreBehind (Some m) acts
-AreBehind last (a_step o ∷ acts) = IsBehind last o × AreBehind None acts
+AreBehind last (a_look m ∷ accesses) = AreBehind (Some m) accesses
+AreBehind last (a_step o ∷ accesses) = IsBehind last o × AreBehind None accesses
 
 -- updates, commits, cuts, deliveries and the calls on topics look first
 pub record RowsLookFirst : Type 0 where

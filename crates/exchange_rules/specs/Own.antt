@@ -3,7 +3,7 @@ use Rattle.std.specs.Prelude.{ℕ, ◌==◌, ◌≡◌, List, [], ◌∷◌, ◌
 use Rattle.std.specs.List.{AllByRecursion}
 use Rattle.shard_versions.specs.declared.cut.OwnMark.{OwnMark}
 use Rattle.exchange_rules.specs.Cells.{Log, author_of}
-use Rattle.exchange_rules.specs.Acts.{at_own, between}
+use Rattle.exchange_rules.specs.Accesses.{at_own, between}
 
 -- the entries of this writer, in order
 abbrev pub by_writer : ℕ → Log → Log

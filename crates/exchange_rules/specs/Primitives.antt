@@ -4,7 +4,7 @@ use Rattle.std.specs.List.{AllByRecursion}
 use Rattle.shard_versions.specs.declared.entry.Kind.{Kind}
 use Rattle.exchange_rules.specs.Cells.{Log, Payload, write, author_of}
 use Rattle.exchange_rules.specs.Courses.{appended}
-use Rattle.exchange_rules.specs.Acts.{one_more}
+use Rattle.exchange_rules.specs.Accesses.{one_more}
 use Rattle.exchange_rules.specs.Following.{Writer}
 use Rattle.exchange_rules.specs.Steps.{closed}
 

@@ -5,6 +5,7 @@ use Rattle.tuple_values.specs.Document.{ByteList}
 use Rattle.tuple_values.specs.declared.names.NameShards.{NameShards}
 use Rattle.tuple_values.specs.declared.write.Write.{Write}
 use Rattle.shard_versions.specs.Histories.{History, top, current}
+use Rattle.shard_versions.specs.Stored.{stored, places_of}
 use Rattle.shard_versions.specs.Shards.{Shown}
 use Rattle.shard_versions.specs.declared.cut.CutPart.{CutPart}
 use Rattle.shard_versions.specs.declared.entry.Kind.{Kind}
@@ -91,7 +92,14 @@ commit_course l collection = commit_shards l collection (λ _. 0) 0
 
 -- a shard as a look at this history shows it
 abbrev pub shown_of : History → Shown
-shown_of h = record { top = top h; upto = length h; documents = current h }
+shown_of h =
+    record {
+      top = top h;
+      upto = length h;
+      documents = current h;
+      slots = stored h;
+      places = places_of h;
+    }
 
 -- the part of a cut that a look at the collection's shard gives
 abbrev pub part_of : ByteList → ℕ → History → CutPart

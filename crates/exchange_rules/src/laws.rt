@@ -1,5 +1,5 @@
 // The laws of following a course, for every answer that a course may have.
-ghost use Rattle.exchange_rules.specs.Laws.{FollowingStays, FollowingJoins, FollowingGoesOn, RunsAlone, OwnStepsAreTold, StepsAreLookedAt};
+ghost use Rattle.exchange_rules.specs.Laws.{FollowingStays, FollowingJoins, FollowingGoesOn, RunsAlone, OwnStepsAreRecorded, StepsAreLookedAt};
 ghost use Rattle.exchange_rules.specs.Looking.{RowsLookFirst};
 
 /// What a writer did follows its course over all that the writer sees later, too.
@@ -23,8 +23,8 @@ pub fn alone_it_is_a_function<A>()
 {}
 
 /// What a writer appended is just what its record says.
-pub fn own_steps_are_told<A>()
-    ensures { OwnStepsAreTold A }
+pub fn own_steps_are_recorded<A>()
+    ensures { OwnStepsAreRecorded A }
 {}
 
 /// Each step of a course that looks first is right behind what its look showed.

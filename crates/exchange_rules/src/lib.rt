@@ -5,13 +5,13 @@ mod batch;
 mod fault;
 mod laws;
 mod log_entry;
-mod told;
+mod recorded;
 
 pub use batch::{Batch, BatchItem, Sent};
 pub use fault::SiteFault;
 pub use laws::{
     alone_it_is_a_function, following_goes_on, following_joins, following_stays,
-    own_steps_are_told, rows_look_first, steps_are_looked_at,
+    own_steps_are_recorded, rows_look_first, steps_are_looked_at,
 };
 pub use log_entry::LogEntry;
-pub use told::{following_is_looked_at, following_is_told};
+pub use recorded::{following_is_looked_at, following_is_recorded};

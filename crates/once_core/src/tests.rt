@@ -29,7 +29,7 @@ use Plain::{Mark, Put, Sent};
 // Events as a row of a table writes them. The document has the id 1, and the topic goes from c to
 // d, from version 0 on. A writes, with a Mark or without, binds, stores and forgets.
 #[derive(Clone, Copy)]
-enum Act {
+enum Action {
     Write(i64),
     Leave(i64),
     Look(u64),
@@ -39,9 +39,9 @@ enum Act {
     Forget,
 }
 
-use Act::{Bind, Forget, Leave, Look, Send, Store, Write};
+use Action::{Bind, Forget, Leave, Look, Send, Store, Write};
 
-const LATE: [Act; 6] = [
+const LATE: [Action; 6] = [
     Write(1),
     Look(B),
     Write(2),
@@ -50,10 +50,10 @@ const LATE: [Act; 6] = [
     Send(B, 1, 1),
 ];
 
-const STORED: [Act; 4] = [Write(1), Bind, Send(A, 1, 1), Store(1)];
+const STORED: [Action; 4] = [Write(1), Bind, Send(A, 1, 1), Store(1)];
 
 // Events, and the place of the first one that isn't allowed.
-const ROWS: [(&[Act], Option<u64>); 6] = [
+const ROWS: [(&[Action], Option<u64>); 6] = [
     (&LATE, None),
     (&[Write(1), Bind, Store(1)], Some(2)),
     (&STORED, None),
@@ -127,8 +127,8 @@ fn written(alloc: Global, entries: &[Plain]) -> Result<Event, Memory> {
     })
 }
 
-fn event(alloc: Global, act: Act) -> Result<Event, Memory> {
-    match act {
+fn event(alloc: Global, action: Action) -> Result<Event, Memory> {
+    match action {
         Write(n) => written(alloc, &[Put(n), Mark]),
         Leave(n) => written(alloc, &[Put(n)]),
         Look(actor) => Ok(Event::Look { actor, cell: C }),
@@ -152,10 +152,10 @@ fn event(alloc: Global, act: Act) -> Result<Event, Memory> {
     }
 }
 
-fn events(alloc: Global, acts: &[Act]) -> Result<Events, Memory> {
+fn events(alloc: Global, actions: &[Action]) -> Result<Events, Memory> {
     let mut events = Events::new(alloc);
-    for act in acts {
-        events.push(event(alloc, *act)?)?;
+    for action in actions {
+        events.push(event(alloc, *action)?)?;
     }
     Ok(events)
 }
@@ -224,8 +224,8 @@ fn upto(world: &World, actor: u64, cell: u32) -> u64 {
 fn core_rows(rt: HostRuntime) -> Result<(), Fail> {
     let alloc = rt.alloc();
     let names = names(alloc)?;
-    for (row, (acts, refused_at)) in ROWS.iter().enumerate() {
-        let replay = replay_events(alloc, &names, &events(alloc, acts)?)?;
+    for (row, (actions, refused_at)) in ROWS.iter().enumerate() {
+        let replay = replay_events(alloc, &names, &events(alloc, actions)?)?;
         assert_eq!(rt; replay.refused_at, *refused_at, "row {row}");
     }
     Ok(())

@@ -37,7 +37,7 @@ shard-at (suc n) (x ∷ logs) zero lt = refl
 shard-at (suc n) (x ∷ logs) (suc c) lt = shard-at n logs c (omega arith)
 
 -- behind the shards none stands
-shard-past : (n : ℕ) (logs : List Log) (c : ℕ) → n ≤ c → get_or (shards_in n logs) c [] ≡ []
+pub shard-past : (n : ℕ) (logs : List Log) (c : ℕ) → n ≤ c → get_or (shards_in n logs) c [] ≡ []
 shard-past zero logs c le = refl
 shard-past (suc n) [] c le = refl
 shard-past (suc n) (x ∷ logs) zero le = absurd (omega arith)

@@ -1,8 +1,9 @@
 -- What a writer may append keeps the law of a site, by the core's law of events.
-use Rattle.std.proofs.Common.{◌≡◌, ℕ, ◌+◌, ◌<◌, ◌≤◌, true, cond, List, [], ◌∷◌, ◌++◌, length, get_or, set, sym, ap, subst, ◌∙◌, arith}
-use Rattle.std.proofs.lemmas.List.{length-set}
+use Rattle.std.proofs.Common.{◌≡◌, ℕ, zero, suc, ◌+◌, ◌<◌, ◌≤◌, true, cond, List, [], ◌∷◌, ◌++◌, length, get_or, replicate, set, refl, sym, ap, subst, ◌∙◌, arith}
+use Rattle.std.proofs.lemmas.List.{length-replicate, length-set}
 use Rattle.tuple_values.specs.declared.names.NameShards.{NameShards}
 use Rattle.shard_versions.specs.Deliveries.{admitted, marked}
+use Rattle.shard_versions.specs.Histories.{History}
 use Rattle.shard_versions.specs.declared.entry.Entry.{Entry}
 use Rattle.topic_book.specs.Books.{raises}
 use Rattle.topic_book.specs.Cells.{cells_in}
@@ -14,13 +15,13 @@ use Rattle.once_core.specs.Law.{IsLaw}
 use Rattle.once_core.specs.Worlds.{grown, with_entry}
 use Rattle.once_core.specs.declared.event.Event.TheVariants.{Write, Send, Bind, Store}
 use Rattle.once_core.specs.declared.world.Histories.{Histories}
-use Rattle.once_core.proofs.KeepingLemmas.{law_event}
+use Rattle.once_core.proofs.KeepingLemmas.{law_event, law_nothing}
 use Rattle.exchange_rules.specs.Cells.{Log, history_in, book_in, log_of}
 use Rattle.exchange_rules.specs.declared.log_entry.LogEntry.TheVariants as logged
 use Rattle.exchange_rules.proofs.StepLemmas.{history_in-log_of}
 use Rattle.site_laws.specs.Duties.{MayWrite, MayDeliver, MayAppendEntry}
 use Rattle.site_laws.specs.Laws.{HasSeen, with_more}
-use Rattle.site_laws.specs.SiteCells.{histories_in, IsLawful}
+use Rattle.site_laws.specs.SiteCells.{histories_in, shards_in, IsLawful}
 use Rattle.site_laws.proofs.CellLemmas.{grown-there, with_entry-there, seen-grows, shard-at, shard-count}
 
 -- a step that may be made over what was seen may be made where as many cells are
@@ -107,3 +108,29 @@ entry-keeps names me logs seen e law has may =
     (with_entry (histories_in names logs) e)
     law.counted (with_entry-there names logs e (omega (arith, counted)))
     (entry-law names me logs seen e law has may)
+
+-- no history of a shard stands in cells with no entry
+shards_in-nothing : (n m : ℕ) → n ≤ m → shards_in n (replicate m []) ≡ replicate n []
+shards_in-nothing zero m le = refl
+shards_in-nothing (suc n) zero le = absurd (omega arith)
+shards_in-nothing (suc n) (suc m) le =
+    ap (λ (l : List History). [] ∷ l) (shards_in-nothing n m (omega arith))
+
+-- nothing is read in such a cell
+nothing-at : (n cell : ℕ) → get_or {A = Log} (replicate n []) cell [] ≡ []
+nothing-at zero cell = refl
+nothing-at (suc n) zero = refl
+nothing-at (suc n) (suc cell) = nothing-at n cell
+
+-- the law holds where no cell has an entry
+pub nothing-lawful : (names : List NameShards)
+    → IsLawful names (replicate (cells_in names + 1) [])
+nothing-lawful names =
+    let n = cells_in names in
+    let shards = shards_in-nothing n (n + 1) (omega arith) in
+    let book = ap book_in (nothing-at (n + 1) n) in
+    record {
+      counted = simp length-replicate;
+      law = subst (IsLaw names)
+          (λ i. record { shards = sym shards i; book = sym book i }) (law_nothing names);
+    }

@@ -2,3 +2,8 @@ pub mod CellLemmas
 pub mod KeepLemmas
 pub mod WriteLemmas
 pub mod DutyLemmas
+pub mod SealingLemmas
+pub mod LookLemmas
+pub mod CoverLemmas
+pub mod LaterLemmas
+pub mod StoreLemmas

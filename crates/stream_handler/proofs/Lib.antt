@@ -7,4 +7,4 @@ pub mod SoundLemmas
 pub mod ServeLemmas
 pub mod OneLemmas
 pub mod ConnectionLemmas
-pub mod TellingLemmas
+pub mod RecordLemmas

@@ -134,7 +134,7 @@ module _ (l : Layout) (start mid : Wire) (w v : Writer) (request : Request)
         exchanged = exchanged_none l w;
         same = s.begun.1.same;
         grown = s.begun.1.grown;
-        acts = s.begun.1.acts;
+        accesses = s.begun.1.accesses;
         marks = s.begun.1.marks;
         own = s.begun.1.own;
         looked = s.begun.1.looked;

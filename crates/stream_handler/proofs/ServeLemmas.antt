@@ -6,7 +6,7 @@ use Rattle.tuple_values.specs.declared.names.NameShards.{NameShards}
 use Rattle.io_edge.specs.Edge.{Appends}
 use Rattle.shard_versions.specs.declared.cut.CutMark.{CutMark}
 use Rattle.shard_versions.specs.declared.cut.Record.{Record}
-use Rattle.exchange_rules.specs.Acts.{looks_at, marks_of}
+use Rattle.exchange_rules.specs.Accesses.{looks_at, marks_of}
 use Rattle.exchange_rules.specs.Cells.{Log}
 use Rattle.exchange_rules.specs.Courses.{ends}
 use Rattle.exchange_rules.specs.Following.{Follows, Grows, Writer, cleared, counts}
@@ -39,9 +39,10 @@ pub sound_still : (l : Layout) (me : ℕ) (s t : List Log) (had end : List ℕ) 
 sound_still l me s t had end [] g i = i
 sound_still l me s t had end (a ∷ xs) g i =
     let one : IsSound me t had (request_course l a.message.request) a.exchange a.outcome i.0 =
-    sound_of l me t had a.message.request a.exchange a.outcome i.0 i.1.acts i.1.marks i.1.own
+    sound_of l me t had a.message.request a.exchange a.outcome i.0 i.1.accesses i.1.marks i.1.own
     i.1.at_once
-    (follows_still me s t had (request_course l a.message.request) i.1.acts (ends a.outcome) i.0 g
+    (follows_still me s t had (request_course l a.message.request) i.1.accesses (ends a.outcome)
+    i.0 g
     i.1.followed) in
     (i.0, one, sound_still l me s t i.0 end xs g i.2)
 
@@ -70,7 +71,7 @@ exchanged_one l w v message x o c = subst P (sym c.rest) now
     P : Writer → Type 0
     P = λ v. Exchanged l w v (record { message = message; exchange = x; outcome = o } ∷ [])
 
-    marks : x.marks ≡ marks_of c.carried.acts
+    marks : x.marks ≡ marks_of c.carried.accesses
     marks = c.marks ∙ c.carried.marks
 
     now : P (cleared c.end)
@@ -80,7 +81,7 @@ exchanged_one l w v message x o c = subst P (sym c.rest) now
       sound = (
         counts c.end.seen,
         sound_of l w.me c.end.seen (counts w.seen) message.request x o (counts c.end.seen)
-            c.carried.acts marks (c.own ∙ c.carried.own) c.at_once c.carried.followed,
+            c.carried.accesses marks (c.own ∙ c.carried.own) c.at_once c.carried.followed,
         refl,
       );
       looked = λ cell.
@@ -250,11 +251,11 @@ over_join l old mid new u v w xs ys rest e p other q = record {
       exchanged = exchanged_join l u v b.mid xs ys p.exchanged b.exchanged;
       same = b.same;
       grown = b.grown;
-      acts = b.acts;
+      accesses = b.accesses;
       marks = b.marks;
       own = b.own;
       looked = b.looked;
       left = b.left;
       followed = subst (λ me. Follows me w.seen (counts b.mid.seen) (request_course l b.message.request)
-          b.acts b.left (counts w.seen)) p.exchanged.same b.followed;
+          b.accesses b.left (counts w.seen)) p.exchanged.same b.followed;
     }

@@ -6,16 +6,16 @@ use Rattle.json_text.specs.declared.fault.JsonFault.{JsonFault}
 use Rattle.json_text.specs.declared.update.Update as body
 use Rattle.shard_versions.specs.declared.cut.CutMark.{CutMark}
 use Rattle.shard_versions.specs.declared.cut.OwnMark.{OwnMark}
-use Rattle.exchange_rules.specs.Acts.{Act, marks_of, own_of}
+use Rattle.exchange_rules.specs.Accesses.{Access, marks_of, own_of}
 use Rattle.exchange_rules.specs.Cells.{Log}
 use Rattle.exchange_rules.specs.Courses.{ends}
 use Rattle.exchange_rules.specs.Following.{Follows, Writer, Answers, cleared, counts}
 use Rattle.exchange_rules.specs.Looking.{LooksFirst}
 use Rattle.exchange_rules.specs.Rows.{Layout, cut_course, finish_course, index_course, shares_of, writes_course}
-use Rattle.exchange_rules.specs.Told.{AreTold, AreLookedAt}
+use Rattle.exchange_rules.specs.Recorded.{AreRecorded, AreLookedAt}
 use Rattle.exchange_rules.proofs.CountLemmas.{IsCounted, follows_counted}
 use Rattle.exchange_rules.proofs.LookingLemmas.{cut_first, either, finish_first, ok_first, then_first, writes_first}
-use Rattle.exchange_rules.proofs.ToldLemmas.{counted_join, counted_none, follows_looked, follows_told}
+use Rattle.exchange_rules.proofs.RecordedLemmas.{counted_join, counted_none, follows_looked, follows_recorded}
 use Rattle.form_request.specs.Params.{first_value}
 use Rattle.form_request.specs.declared.request.Handler.{Handler}
 use Rattle.form_request.specs.declared.request.Handler.TheVariants.{Stream, Update}
@@ -74,24 +74,25 @@ request_first l r =
 pub requests_first : RequestsLookFirst
 requests_first = record { request = request_first; expression = plain_first }
 
--- acts that follow the whole course of a request make its exchange sound
+-- accesses that follow the whole course of a request make its exchange sound
 pub sound_of : (l : Layout) (me : ℕ) (seen : List Log) (had : List ℕ) (r : Request) (x : Exchange)
-    (o : Outcome) (end : List ℕ) (acts : List Act) → x.marks ≡ marks_of acts → x.own ≡ own_of acts
-    → x.millis ≡ 0 → Follows me seen had (request_course l r) acts (ends o) end
+    (o : Outcome) (end : List ℕ) (accesses : List Access)
+    → x.marks ≡ marks_of accesses → x.own ≡ own_of accesses
+    → x.millis ≡ 0 → Follows me seen had (request_course l r) accesses (ends o) end
     → IsSound me seen had (request_course l r) x o end
-sound_of l me seen had r x o end acts marks own now f =
+sound_of l me seen had r x o end accesses marks own now f =
     let p = request_course l r in
-    let looked : AreLookedAt (marks_of acts) (own_of acts) =
-    (follows_looked me seen had p acts (ends o) end (request_first l r) f).1 in
+    let looked : AreLookedAt (marks_of accesses) (own_of accesses) =
+    (follows_looked me seen had p accesses (ends o) end (request_first l r) f).1 in
     record {
-      acts = acts;
+      accesses = accesses;
       marks = marks;
       own = own;
       followed = f;
-      told = subst (AreTold me seen had end) (sym own)
-          (follows_told me seen had p acts (ends o) end f);
+      recorded = subst (AreRecorded me seen had end) (sym own)
+          (follows_recorded me seen had p accesses (ends o) end f);
       looked_at = subst (λ (m : List CutMark). AreLookedAt m x.own) (sym marks)
-          (subst (AreLookedAt (marks_of acts)) (sym own) looked);
+          (subst (AreLookedAt (marks_of accesses)) (sym own) looked);
       at_once = now;
     }
 
@@ -105,7 +106,7 @@ sound_counted l me seen had end (a ∷ answers) c i =
     let p = request_course l a.message.request in
     let one : IsCounted me seen had i.0 a.exchange.own c =
     subst (λ (own : List OwnMark). IsCounted me seen had i.0 own c) (sym i.1.own)
-    (follows_counted me seen had p i.1.acts (ends a.outcome) i.0 c i.1.followed) in
+    (follows_counted me seen had p i.1.accesses (ends a.outcome) i.0 c i.1.followed) in
     counted_join me seen had i.0 end a.exchange.own (owns_of (exchanges_of answers)) c one
     (sound_counted l me seen i.0 end answers c i.2)
 
@@ -129,6 +130,6 @@ answered_of {l} {m} {w} {u} {end} {new} {r} {a} {o} fresh same went rest marks o
       own = own;
       reply = reply;
       at_once = now;
-      sound = sound_of l w.me end.seen (counts w.seen) r a.exchange o (counts end.seen) k.acts
+      sound = sound_of l w.me end.seen (counts w.seen) r a.exchange o (counts end.seen) k.accesses
           (marks ∙ k.marks) (own ∙ k.own) now k.followed;
     }

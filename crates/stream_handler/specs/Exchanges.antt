@@ -4,12 +4,12 @@ use Rattle.std.specs.List.{flat_map}
 use Rattle.tuple_values.specs.Document.{ByteList}
 use Rattle.shard_versions.specs.declared.cut.CutMark.{CutMark}
 use Rattle.shard_versions.specs.declared.cut.OwnMark.{OwnMark}
-use Rattle.exchange_rules.specs.Acts.{Act, marks_of, own_of}
+use Rattle.exchange_rules.specs.Accesses.{Access, marks_of, own_of}
 use Rattle.exchange_rules.specs.Cells.{Log}
 use Rattle.exchange_rules.specs.Courses.{Course, ends}
 use Rattle.exchange_rules.specs.Following.{Follows, Writer, Answers, cleared, counts}
 use Rattle.exchange_rules.specs.Rows.{Layout}
-use Rattle.exchange_rules.specs.Told.{AreTold, AreLookedAt}
+use Rattle.exchange_rules.specs.Recorded.{AreRecorded, AreLookedAt}
 use Rattle.form_request.specs.declared.reading.Message.{Message}
 use Rattle.form_request.specs.declared.request.Request.{Request}
 use Rattle.stream_handler.specs.Outcomes.{reply_of}
@@ -20,16 +20,16 @@ use Rattle.stream_handler.specs.declared.exchange.Exchange.{Exchange}
 use Rattle.stream_handler.specs.declared.outcome.Outcome.{Outcome}
 
 -- the exchange is sound for the course and this answer: over what the writer has seen, its marks
--- and own marks are those of acts that follow the whole course, from these counts to those. What
--- the writer appended meanwhile is just what the own marks say, each step once and in order, and
--- each of them begins where a mark of its cell ends. All times are 0.
+-- and own marks are those of accesses that follow the whole course, from these counts to those.
+-- What the writer appended meanwhile is just what the own marks say, each step once and in order,
+-- and each of them begins where a mark of its cell ends. All times are 0.
 pub record IsSound (me : ℕ) (seen : List Log) (had : List ℕ) (course : Course Outcome)
     (x : Exchange) (o : Outcome) (end : List ℕ) : Type 0 where
-  pub acts : List Act
-  pub marks : x.marks ≡ marks_of acts
-  pub own : x.own ≡ own_of acts
-  pub followed : Follows me seen had course acts (ends o) end
-  pub told : AreTold me seen had end x.own
+  pub accesses : List Access
+  pub marks : x.marks ≡ marks_of accesses
+  pub own : x.own ≡ own_of accesses
+  pub followed : Follows me seen had course accesses (ends o) end
+  pub recorded : AreRecorded me seen had end x.own
   pub looked_at : AreLookedAt x.marks x.own
   pub at_once : x.millis ≡ 0
 

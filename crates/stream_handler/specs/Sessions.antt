@@ -5,11 +5,11 @@ use Rattle.tuple_values.specs.declared.names.NameShards.{NameShards}
 use Rattle.std.specs.List.{AllByRecursion}
 use Rattle.io_edge.specs.Edge.{Appends, Rose}
 use Rattle.shard_versions.specs.declared.cut.Record.{Record}
-use Rattle.exchange_rules.specs.Acts.{Act, looks_at, marks_of, own_of}
+use Rattle.exchange_rules.specs.Accesses.{Access, looks_at, marks_of, own_of}
 use Rattle.exchange_rules.specs.Courses.{Course}
 use Rattle.exchange_rules.specs.Following.{Follows, Grows, Writer, counts}
 use Rattle.exchange_rules.specs.Rows.{Layout}
-use Rattle.exchange_rules.specs.Told.{AreTold}
+use Rattle.exchange_rules.specs.Recorded.{AreRecorded}
 use Rattle.form_request.specs.Readers.{HeldReads}
 use Rattle.form_request.specs.Streams.{Held, fed}
 use Rattle.form_request.specs.declared.plan.Stage.TheVariants as stage
@@ -106,14 +106,14 @@ pub record IsBegun (l : Layout) (old new : Wire) (w v : Writer) (answers : List 
   pub exchanged : Exchanged l w mid answers
   pub same : v.me ≡ mid.me
   pub grown : Grows mid.seen v.seen
-  pub acts : List Act
-  pub marks : rest.marks ≡ marks_of acts
-  pub own : rest.own ≡ own_of acts
+  pub accesses : List Access
+  pub marks : rest.marks ≡ marks_of accesses
+  pub own : rest.own ≡ own_of accesses
   pub looked : (cell : ℕ)
-      → get_or v.looks cell 0 ≡ get_or mid.looks cell 0 + looks_at cell (marks_of acts)
+      → get_or v.looks cell 0 ≡ get_or mid.looks cell 0 + looks_at cell (marks_of accesses)
   pub left : Course Outcome
-  pub followed : Follows w.me v.seen (counts mid.seen) (request_course l message.request) acts left
-      (counts v.seen)
+  pub followed : Follows w.me v.seen (counts mid.seen) (request_course l message.request)
+      accesses left (counts v.seen)
 
 -- the last of these requests asked to close, and nothing is read behind it
 abbrev pub IsClosed : List Answer → Held → Type 0
@@ -278,6 +278,6 @@ IsConnection l old left reads written writes w v s =
 
 -- at each cell, what the writer appended is just what the own marks of the exchanges, and then
 -- those of the rest, say, each step once and in order
-abbrev pub TellsSteps : Writer → Writer → SessionEnd → Type 0
-TellsSteps w v s =
-    AreTold w.me v.seen (counts w.seen) (counts v.seen) (owns_of s.exchanges ++ s.rest.own)
+abbrev pub RecordsSteps : Writer → Writer → SessionEnd → Type 0
+RecordsSteps w v s =
+    AreRecorded w.me v.seen (counts w.seen) (counts v.seen) (owns_of s.exchanges ++ s.rest.own)

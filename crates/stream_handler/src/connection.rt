@@ -1,7 +1,7 @@
 // The serving of a whole connection.
 ghost use Rattle.std.specs.Prelude.{◌≡◌, ◌<◌, ◌++◌, vec_capacity, vec_len};
 ghost use Rattle.form_request.specs.Streams.{begun};
-ghost use Rattle.stream_handler.specs.Sessions.{IsBounded, IsConnection, TellsSteps, nothing, record_of, wire};
+ghost use Rattle.stream_handler.specs.Sessions.{IsBounded, IsConnection, RecordsSteps, nothing, record_of, wire};
 ghost use Rattle.stream_handler.specs.Serving.{end_of, exchanges_in};
 
 use crate::{End, Exchange, Exchanges, OneEnd, SessionEnd, serve_one};
@@ -78,7 +78,7 @@ pub fn serve_connection<T: Turns, S: Source, K: Sink>(
         (wire begun (S.left source.old) (S.faults source.old) (K.written sink.old)
         (K.faults sink.old)) (S.left source.new) (S.faults source.new) (K.written sink.new)
         (K.faults sink.new) (T.writer site.old) (T.writer site.new) result }
-    ensures told { TellsSteps (T.writer site.old) (T.writer site.new) result }
+    ensures recorded { RecordsSteps (T.writer site.old) (T.writer site.new) result }
     ensures layout { T.layout site.new ≡ T.layout site.old }
 {
     let _ = site.take_record();

@@ -76,13 +76,13 @@ plain_appended p b e n from own at by after f o =
     let begun : from ≡ length (get_or w.seen n []) = f ∙ book_long p.shards p.book n at in
     let build : List Log → List OwnMark → Writer =
     λ s a. record { me = 1; seen = s; marks = p.marks; own = a; looks = p.looks } in
-    let told : own ≡ p.own ++ record {
+    let recorded : own ≡ p.own ++ record {
       cell = n;
       from = length (get_or w.seen n []);
       count = 1;
     } ∷ [] =
     o ∙ ap (λ z. p.own ++ record { cell = n; from = z; count = 1 } ∷ []) begun in
-    ap (λ s. build s own) seen ∙ ap (build (appended 1 w.seen n payloads)) told
+    ap (λ s. build s own) seen ∙ ap (build (appended 1 w.seen n payloads)) recorded
 
 -- what was seen of the book is what is kept of it
 pub plain_book : (shards : List Shard) (s p : Plain) → s ≡ p → histories_of shards ≡ s.shards

@@ -6,6 +6,7 @@ use Rattle.std.proofs.lemmas.List.{get_or_append_left, get_or-map, set-append_le
 use Rattle.std.proofs.lemmas.Bool.{ltb-true, lt-ltb}
 use Rattle.std.proofs.Math.Seq.{map-set_same}
 use Rattle.shard_versions.specs.Histories.{History, top, current}
+use Rattle.shard_versions.specs.Stored.{stored, places_of}
 use Rattle.shard_versions.specs.Shards.{Shard, Shown}
 use Rattle.shard_versions.specs.Sizes.{entries_bytes, kind_bytes}
 use Rattle.shard_versions.specs.declared.entry.Entry.{Entry}
@@ -97,7 +98,7 @@ plain_made p shards c x y step from count own e lt is by after f n o =
     let all : count ≡ length payloads = n ∙ sym whole in
     let build : List Log → List OwnMark → Writer =
     λ s b. record { me = 1; seen = s; marks = p.marks; own = b; looks = p.looks } in
-    let told : own ≡ p.own ++ record {
+    let recorded : own ≡ p.own ++ record {
       cell = c;
       from = length (get_or w.seen c []);
       count = length payloads;
@@ -108,7 +109,7 @@ plain_made p shards c x y step from count own e lt is by after f n o =
       from = length (get_or w.seen c []);
       count = z;
     } ∷ []) all) in
-    ap (λ s. build s own) seen ∙ ap (build (appended 1 w.seen c payloads)) told
+    ap (λ s. build s own) seen ∙ ap (build (appended 1 w.seen c payloads)) recorded
 
 -- a shard that stays as it was
 pub plain_kept : (p : Plain) (shards : List Shard) (c : ℕ) (x y : Shard)
@@ -158,19 +159,24 @@ full_at p now shards c x step view e limits lt is =
 
 -- a shard as it was read
 pub shown_is : (s : Shown) (h k : History) → s.top ≡ top h → s.upto ≡ length h
-    → s.documents ≡ current h → k ≡ h → s ≡ shown_of k
-shown_is s h k t u d e =
-    let build : ℕ → ℕ → _ → Shown = λ a b c. record { top = a; upto = b; documents = c } in
-    ap (λ x. build x s.upto s.documents) t
-    ∙ (ap (λ x. build (top h) x s.documents) u
-    ∙ (ap (build (top h) (length h)) d ∙ ap shown_of (sym e)))
+    → s.documents ≡ current h → s.slots ≡ stored h → s.places ≡ places_of h → k ≡ h
+    → s ≡ shown_of k
+shown_is s h k t u d l p e =
+    let build : ℕ → ℕ → _ → _ → _ → Shown = λ a b c i j.
+    record { top = a; upto = b; documents = c; slots = i; places = j } in
+    ap (λ x. build x s.upto s.documents s.slots s.places) t
+    ∙ (ap (λ x. build (top h) x s.documents s.slots s.places) u
+    ∙ (ap (λ x. build (top h) (length h) x s.slots s.places) d
+    ∙ (ap (λ x. build (top h) (length h) (current h) x s.places) l
+    ∙ (ap (build (top h) (length h) (current h) (stored h)) p ∙ ap shown_of (sym e)))))
 
 -- the same of an answer
 pub shown_ok : {E : Type 0} (r : Result Shown E) (h k : History)
     → IfOk r (λ s. s.top ≡ top h) → IfOk r (λ s. s.upto ≡ length h)
-    → IfOk r (λ s. s.documents ≡ current h) → k ≡ h → IfOk r (λ s. s ≡ shown_of k)
-shown_ok (Ok s) h k t u d e = shown_is s h k t u d e
-shown_ok (Err e) h k t u d f = tt
+    → IfOk r (λ s. s.documents ≡ current h) → IfOk r (λ s. s.slots ≡ stored h)
+    → IfOk r (λ s. s.places ≡ places_of h) → k ≡ h → IfOk r (λ s. s ≡ shown_of k)
+shown_ok (Ok s) h k t u d l p e = shown_is s h k t u d l p e
+shown_ok (Err e) h k t u d l p f = tt
 
 -- a cell of a shard
 pub in_shards : (p : Plain) (c n : ℕ) → HasCell (layout_of p) (writer_of p) c

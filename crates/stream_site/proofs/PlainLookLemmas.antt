@@ -6,7 +6,7 @@ use Rattle.shard_versions.specs.Shards.{Shard}
 use Rattle.shard_versions.specs.declared.cut.CutMark.{CutMark}
 use Rattle.topic_book.specs.Books.{Book}
 use Rattle.exchange_rules.specs.Cells.{Log, log_of, log_of_book}
-use Rattle.exchange_rules.specs.Acts.{one_more}
+use Rattle.exchange_rules.specs.Accesses.{one_more}
 use Rattle.exchange_rules.specs.Following.{Writer}
 use Rattle.exchange_rules.specs.Primitives.{LooksAt}
 use Rattle.stream_site.specs.Plains.{Plain, logs_in, writer_of}

@@ -69,7 +69,7 @@ plain_topic shards s p view e counted fit key upto m =
     of_topic p.names (histories_in p.names (writer_of p).seen) s.book key upto m here fit'
 
 -- an entry that may be added to the book may follow there
-entry_follows : (names : List NameShards) (seen : List Log) (b : Book) (me : ℕ) (e : BookEntry)
+pub entry_follows : (names : List NameShards) (seen : List Log) (b : Book) (me : ℕ) (e : BookEntry)
     → (histories_in names seen).book ≡ b → AllByRecursion (IsFitEntry names) b
     → MayAppendEntry names me seen e → MayFollow b e
 entry_follows names seen b me (book.Bind by key c) same fit may =
@@ -84,7 +84,7 @@ entry_by names seen me (book.Bind by key c) may = may.0
 entry_by names seen me (book.Store by key upto) may = may.0
 
 -- and on known collections
-entry_fit : (names : List NameShards) (seen : List Log) (me : ℕ) (e : BookEntry)
+pub entry_fit : (names : List NameShards) (seen : List Log) (me : ℕ) (e : BookEntry)
     → MayAppendEntry names me seen e → IsFitEntry names e
 entry_fit names seen me (book.Bind by key c) may = may.1.fit
 entry_fit names seen me (book.Store by key upto) may = tt

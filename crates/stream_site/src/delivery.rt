@@ -63,7 +63,7 @@ fn is_admitted(
 }
 
 /// The entries of the step that the shard, followed by those kept so far, admits.
-pub(crate) fn admitted(alloc: Global, shard: &ShardState, step: Step) -> Result<Step, Memory>
+pub fn admitted(alloc: Global, shard: &ShardState, step: Step) -> Result<Step, Memory>
     ensures { IfOk result (λ kept. kept ≡ admitted shard.now.entries step) }
 {
     let mut kept = Step::new(alloc);

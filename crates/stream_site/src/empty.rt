@@ -8,7 +8,7 @@ use std::alloc::Global;
 use tuple_values::{Memory, NameShards};
 
 /// A shard of no entry for each shard of the collections.
-pub(crate) fn empty_shards(
+pub fn empty_shards(
     alloc: Global,
     names: &[NameShards],
     limit: u64,

@@ -77,7 +77,7 @@ fn step_over<T: Turns>(alloc: Global, site: &mut T, at: &Spot, step: Step) -> Re
 }
 
 /// The writer's step with a Mark behind it, where there is a commit.
-pub(crate) fn close(mut step: Step, writer: u64, commit: bool) -> Result<Step, Memory>
+pub fn close(mut step: Step, writer: u64, commit: bool) -> Result<Step, Memory>
     ensures { IfOk result (λ s. s ≡ (if commit then step ++ mark_by writer ∷ [] else step)) }
 {
     if commit {

@@ -1,5 +1,5 @@
 -- Two cells and two passes, as the tests make them.
-use Rattle.std.proofs.Common.{ℕ, zero, suc, ◌+◌, ◌≡◌, ◌≢◌, ◌<◌, List, [], ◌∷◌, ◌++◌, get_or, length, map, sym, ap, ◌∙◌, arith, length-append}
+use Rattle.std.proofs.Common.{ℕ, zero, suc, ◌+◌, ◌≡◌, ◌≢◌, ◌<◌, List, [], ◌∷◌, ◌++◌, get_or, length, map, sym, ap, subst, ◌∙◌, arith, length-append}
 use Rattle.std.specs.Prelude.{All, AllPairs, Contains}
 use Rattle.std.proofs.lemmas.List.Elements.{All-cons, All-nil, All-same}
 use lib.ListN.{length-map}
@@ -34,3 +34,13 @@ two_popped f xs front (z ∷ zs) p q a b known last first =
     let one = ap length last in let two = ap length first in
     let three = length-append front (q ∷ []) in let four = length-append (z ∷ zs) (p ∷ []) in
     absurd (omega arith)
+
+-- the numbers 1 and 2 are those of two passes
+pub two_found : {P : Type 0} (f : P → ℕ) (ns : List ℕ) (ps : List P) (p q : P)
+    → ns ≡ 1 ∷ 2 ∷ [] → ps ≡ p ∷ q ∷ [] → f p ≡ 1 → f q ≡ 2
+    → All (λ n. Contains (map f ps) n) ns
+two_found f ns ps p q n e one two =
+    subst (λ l. All (λ n. Contains (map f ps) n) l) (sym n)
+    (both (λ n. Contains (map f ps) n) 1 2
+    (subst (λ l. Contains (map f l) 1) (sym e) (0, omega arith, one))
+    (subst (λ l. Contains (map f l) 2) (sym e) (1, omega arith, two)))

@@ -24,12 +24,9 @@ pub type Cells<C> = Sequence<C>;
 #[derive(Drop)]
 pub struct TurnTable<C: CellState> {
     pub(crate) board: Table<Option<C>, View<C::About, C::Entry>, Opening<C>, Turns<C>, Global>,
-    // What the table was started with.
-    pub(crate) opening: Opening<C>,
     pub(crate) cells: u32,
     // Room for the cells that `close` gives.
     pub(crate) room: Vec<C>,
-    ghost tied: { board.shared.key ≡ opening },
     ghost words: { board.shared.table_id.words ≡ 2 * cells + 1 },
     ghost slots: { board.shared.table_id.slots ≡ cells },
     ghost few: { cells < 2 ^ 30 },
@@ -50,8 +47,8 @@ impl<C: CellState> TurnTable<C> {
         requires new { All (λ cell. All (λ entry. ¬ Contains numbers (C.writer entry))
             (C.history cell)) cells }
         ensures cells { IfOk result (λ made. made.0.cells ≡ length cells) }
-        ensures opening { IfOk result (λ made. (made.0.opening.cells.value ≡ cells)
-            × (made.0.opening.numbers.value ≡ numbers)) }
+        ensures opening { IfOk result (λ made. (made.0.board.shared.key.cells.value ≡ cells)
+            × (made.0.board.shared.key.numbers.value ≡ numbers)) }
         ensures passes { IfOk result (λ made. map known made.1
             ≡ map (fresh (map C.about cells) (length cells)) numbers) }
         ensures own { IfOk result (λ made.
@@ -70,11 +67,17 @@ impl<C: CellState> TurnTable<C> {
         let passes = deal(alloc, &board.shared, seat, numbers.as_slice(), count)?;
         let table = TurnTable {
             board,
-            opening,
             cells: count as u32,
             room,
         };
         Ok((table, Sequence::from_vec(passes)))
+    }
+
+    /// How many cells there are.
+    pub fn cells(&self) -> u32
+        ensures { result ≡ self.now.cells }
+    {
+        self.cells
     }
 
     /// Makes one try to take the turn of a cell.
@@ -217,21 +220,17 @@ impl<C: CellState> TurnTable<C> {
         requires own { All (λ pass. table_of pass ≡ self.board.shared.table_id) passes }
         requires free { All (λ pass. IsFree (known pass)) passes }
         requires all { All (λ number. Contains (map (λ pass. (known pass).number) passes) number)
-            self.opening.numbers.value }
-        ensures lawful { C.law (map C.about self.opening.cells.value) (map C.history result) }
-        ensures about { map C.about result ≡ map C.about self.opening.cells.value }
+            self.board.shared.key.numbers.value }
+        ensures lawful { C.law (map C.about self.board.shared.key.cells.value)
+            (map C.history result) }
+        ensures about { map C.about result ≡ map C.about self.board.shared.key.cells.value }
         ensures written { GrewBy
-            (λ entry. Contains self.opening.numbers.value (C.writer entry))
-            (map C.history self.opening.cells.value) (map C.history result) }
+            (λ entry. Contains self.board.shared.key.numbers.value (C.writer entry))
+            (map C.history self.board.shared.key.cells.value) (map C.history result) }
         ensures seen { All (λ pass. GrewBy (λ entry. C.writer entry ≢ (known pass).number)
             (known pass).seen (map C.history result)) passes }
     {
-        let TurnTable {
-            board,
-            opening: _,
-            cells,
-            room,
-        } = self;
+        let TurnTable { board, cells, room } = self;
         let mut passes = passes.into_vec();
         let Some(first) = passes.pop() else {
             unreachable!()

@@ -1,11 +1,13 @@
 // Turns over a small cell: amounts, of which the second cell has no more than the first.
 ghost use Rattle.std.specs.Prelude.{◌≡◌, ◌<◌, ◌+◌, ℕ, [], ◌∷◌, length, vec_len, vec_capacity, All, IfOk, Some, None};
 ghost use Rattle.turn_table.specs.Calls.{known, table_of};
-ghost use Rattle.turn_table.specs.Knowledge.{fresh};
+ghost use Rattle.turn_table.specs.Knowledge.{fresh, IsFree};
 
 use crate::{CellState, Pass, TurnTable, law_between_steps};
 use std::alloc::{AllocError, Global};
+use std::sync::Wait;
 use std::test::Fail;
+use std::thread::{Threads, join};
 use tuple_values::{Numbers, Sequence};
 
 /// Amounts, each with the number of the pass that added it.
@@ -91,7 +93,7 @@ type TallyPass = Pass<Tally, u64, (u64, u64)>;
 /// A table of two cells with no entry, and its passes, with the numbers 1 and 2.
 fn two_cells(alloc: Global) -> Result<(TurnTable<Tally>, TallyPass, TallyPass), Fail>
     ensures cells { IfOk result (λ made. made.0.cells ≡ 2) }
-    ensures numbers { IfOk result (λ made. made.0.opening.numbers.value ≡ 1 ∷ 2 ∷ []) }
+    ensures numbers { IfOk result (λ made. made.0.board.shared.key.numbers.value ≡ 1 ∷ 2 ∷ []) }
     ensures own { IfOk result (λ made. (table_of made.1 ≡ made.0.board.shared.table_id)
         × (table_of made.2 ≡ made.0.board.shared.table_id)) }
     ensures known { IfOk result (λ made. (known made.1 ≡ fresh (0 ∷ 0 ∷ []) 2 1)
@@ -160,5 +162,73 @@ fn one_pass_gives_two_turns_in_the_order_it_took_them(rt: HostRuntime) -> Result
         table.give(&mut pass, turn);
     }
     assert!(rt; both && one_is_free);
+    Ok(())
+}
+
+/// One amount more in the first cell, where there is room for it: the pass waits for the turn,
+/// looks, makes room, seals and gives the turn back.
+fn add<R: Wait>(
+    rt: &R,
+    table: &TurnTable<Tally>,
+    mut pass: TallyPass,
+    amount: u64,
+) -> (TallyPass, bool)
+    requires own { table_of pass ≡ table.now.board.shared.table_id }
+    requires cells { 0 < table.now.cells }
+    requires free { IsFree (known pass) }
+    ensures own { table_of result.0 ≡ table.now.board.shared.table_id }
+    ensures free { IsFree (known result.0) }
+    ensures number { (known result.0).number ≡ (known pass).number }
+{
+    let mut turn = table.turn(rt, &mut pass, 0);
+    table.look(&mut pass, &turn);
+    let room = turn.reserve(&pass, &amount).is_ok();
+    if room {
+        table.seal(&mut pass, &mut turn, amount);
+    }
+    table.give(&mut pass, turn);
+    (pass, room)
+}
+
+/// Two threads add, each with its pass.
+fn add_both<R: Threads + Wait + Sync>(
+    rt: &R,
+    table: &TurnTable<Tally>,
+    first: TallyPass,
+    second: TallyPass,
+) -> ((TallyPass, bool), (TallyPass, bool))
+    requires own { (table_of first ≡ table.now.board.shared.table_id)
+        × (table_of second ≡ table.now.board.shared.table_id) }
+    requires cells { 0 < table.now.cells }
+    requires free { IsFree (known first) × IsFree (known second) }
+    ensures own { (table_of result.0.0 ≡ table.now.board.shared.table_id)
+        × (table_of result.1.0 ≡ table.now.board.shared.table_id) }
+    ensures free { IsFree (known result.0.0) × IsFree (known result.1.0) }
+    ensures numbers { ((known result.0.0).number ≡ (known first).number)
+        × ((known result.1.0).number ≡ (known second).number) }
+{
+    join(
+        rt,
+        || add(rt, table, first, 5),
+        || add(rt, table, second, 7),
+    )
+}
+
+#[test]
+fn two_threads_add_by_turns(rt: HostRuntime) -> Result<(), Fail> {
+    let (table, first, second) = two_cells(rt.alloc())?;
+    let ((first, one), (second, two)) = add_both(&rt, &table, first, second);
+    let mut passes = Sequence::new(rt.alloc());
+    passes.push(first)?;
+    passes.push(second)?;
+    let cells = table.close(passes);
+    let mut sum: u64 = 0;
+    for cell in cells.as_slice() {
+        for entry in &cell.entries {
+            sum = sum.saturating_add(entry.1);
+        }
+    }
+    assert!(rt; one && two);
+    assert_eq!(rt; sum, 12);
     Ok(())
 }

@@ -1,7 +1,7 @@
 use Rattle.std.proofs.Common.{ap}
 use Rattle.stream_handler.specs.Sessions.{record_of}
 use Rattle.stream_handler.proofs.ConnectionLemmas.{record_is, session_of}
-use Rattle.stream_handler.proofs.TellingLemmas.{session_tells}
+use Rattle.stream_handler.proofs.RecordLemmas.{session_records}
 use Rattle.stream_handler.proofs.connection.serve_connection.Goals as goal
 
 pub returns-clause-session : goal.returns-clause-session
@@ -14,5 +14,5 @@ returns-clause-session g c = (
   ap record_of c.take_record-2.ensures.rest,
 )
 
-pub returns-clause-told : goal.returns-clause-told
-returns-clause-told g c = session_tells (returns-clause-session g c).1.session
+pub returns-clause-recorded : goal.returns-clause-recorded
+returns-clause-recorded g c = session_records (returns-clause-session g c).1.session

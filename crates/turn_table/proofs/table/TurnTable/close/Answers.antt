@@ -1,9 +1,8 @@
 use Rattle.std.proofs.Common.{◌≡◌, ◌≢◌, ◌++◌, map, Some, sym, ap, ◌∙◌, subst, arith}
 use Rattle.std.specs.Prelude.{Contains}
 use Rattle.std.specs.Slots.{slots_counts, slots_items}
-use Rattle.std.proofs.lemmas.List.Elements.{All-pop, All-same, All-weaker}
+use Rattle.std.proofs.lemmas.List.Elements.{All-pop, All-weaker}
 use lib.ListN.{length-map}
-use Rattle.turn_table.specs.declared.rule.Opening.{Opening}
 use Rattle.turn_table.specs.Calls.{known, table_of}
 use Rattle.turn_table.specs.Carried.{emptied}
 use Rattle.turn_table.specs.Histories.{GrewBy}
@@ -47,10 +46,8 @@ unload-requires g c =
     let one = ap (λ s. passes_of s.me.0) c.into_seat.ensures ∙ ap passes_of first.alone in
     let taken = c.gather-seat.ensures.passes ∙ ap (λ l. l ++ map known front) one in
     let there = numbers_there known c.args.passes front first split ks taken in
-    let all = All-same (Contains (map (λ k. k.number) ks)) key.numbers.value
-    t.opening.numbers.value (ap (λ o. o.numbers.value) t.tied)
-    (All-weaker _ (Contains (map (λ k. k.number) ks)) there t.opening.numbers.value
-    c.requires.all) in
+    let all = All-weaker _ (Contains (map (λ k. k.number) ks)) there key.numbers.value
+    c.requires.all in
     let free = free_there known c.args.passes front first split ks taken c.requires.free in
     let done = ends T.about T.history T.writer T.law T.tells (map T.about key.cells.value)
     (map T.history key.cells.value) key.numbers.value seat.id seat.me.0 _
@@ -73,10 +70,8 @@ returns g c =
     let one = ap (λ s. passes_of s.me.0) c.into_seat.ensures ∙ ap passes_of first.alone in
     let taken = c.gather-seat.ensures.passes ∙ ap (λ l. l ++ map known front) one in
     let there = numbers_there known c.args.passes front first split ks taken in
-    let all = All-same (Contains (map (λ k. k.number) ks)) key.numbers.value
-    t.opening.numbers.value (ap (λ o. o.numbers.value) t.tied)
-    (All-weaker _ (Contains (map (λ k. k.number) ks)) there t.opening.numbers.value
-    c.requires.all) in
+    let all = All-weaker _ (Contains (map (λ k. k.number) ks)) there key.numbers.value
+    c.requires.all in
     let free = free_there known c.args.passes front first split ks taken c.requires.free in
     let done = ends T.about T.history T.writer T.law T.tells (map T.about key.cells.value)
     (map T.history key.cells.value) key.numbers.value seat.id seat.me.0 _
@@ -88,16 +83,10 @@ returns g c =
     (map T.history key.cells.value) key.numbers.value ks _ done Now c.unload.ensures
     (length-map key.cells.value T.about ∙ sym (length-map key.cells.value T.history)) in
     let now = ap (map T.history) c.from_vec.ensures ∙ histories in record {
-      lawful = subst (λ (o : Opening g.row.C.Denot). T.law (map T.about o.cells.value)
-          (map T.history c.from_vec.result)) t.tied
-          (subst (T.law (map T.about key.cells.value)) (sym now) done.lawful);
-      about = ap (map T.about) c.from_vec.ensures
-          ∙ (abouts ∙ ap (λ o. map T.about o.cells.value) t.tied);
-      written = subst (λ (o : Opening g.row.C.Denot). GrewBy
-          (λ entry. Contains o.numbers.value (T.writer entry)) (map T.history o.cells.value)
-          (map T.history c.from_vec.result)) t.tied
-          (subst (GrewBy (λ entry. Contains key.numbers.value (T.writer entry))
-          (map T.history key.cells.value)) (sym now) done.grown);
+      lawful = subst (T.law (map T.about key.cells.value)) (sym now) done.lawful;
+      about = ap (map T.about) c.from_vec.ensures ∙ abouts;
+      written = subst (GrewBy (λ entry. Contains key.numbers.value (T.writer entry))
+          (map T.history key.cells.value)) (sym now) done.grown;
       seen = each_pass known c.args.passes front first split ks taken
           (λ k. GrewBy (λ entry. T.writer entry ≢ k.number) k.seen
           (map T.history c.from_vec.result))

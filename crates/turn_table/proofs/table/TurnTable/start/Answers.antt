@@ -44,13 +44,18 @@ invariant_of-table g c =
     let items = ap length c.into_vec.ensures in
     let m₀ = made.0 in let m₁ = made.1 in let few = c.requires.few in
     let v : c.len-count.result ≡ length c.args.cells = count in record {
-      tied = made.5;
       words = omega (arith, m₀, words, p, q, items, v);
       slots = omega (arith, m₁, slots, some, items, v);
       few = omega (arith, v, few);
       empty = c.in_ok-room.ensures.items;
       roomy = (let room = c.in_ok-room.ensures.capacity in omega (arith, room));
     }
+
+pub returns-clause-opening : goal.returns-clause-opening
+returns-clause-opening g c = (
+  ap (λ k. k.cells.value) c.in-Ok.ensures.ok.5 ∙ c.of.ensures,
+  ap (λ k. k.numbers.value) c.in-Ok.ensures.ok.5 ∙ c.of-2.ensures,
+)
 
 pub returns-clause-passes : goal.returns-clause-passes
 returns-clause-passes g c =

@@ -1,4 +1,4 @@
--- A writer's acts to the cells, as its record has them: looks and steps (own).
+-- A writer's accesses to the cells, as its record has them: looks and steps (own).
 use Rattle.std.specs.Prelude.{ℕ, zero, suc, ◌+◌, ◌≡◌, ◌≢◌, ◌<◌, ◌≤◌, ◌==◌, List, [], ◌∷◌, ◌++◌, get_or, set, length, take, drop, count_by}
 use Rattle.std.specs.List.{AllByRecursion}
 use Rattle.shard_versions.specs.declared.cut.CutMark.{CutMark}
@@ -6,21 +6,21 @@ use Rattle.shard_versions.specs.declared.cut.OwnMark.{OwnMark}
 use Rattle.exchange_rules.specs.Cells.{Log, Payload, author_of, signed_behind}
 
 -- a look, by its mark; a step, by its own mark
-pub data Act : Type 0 where
-  a_look : CutMark → Act
-  a_step : OwnMark → Act
+pub data Access : Type 0 where
+  a_look : CutMark → Access
+  a_step : OwnMark → Access
 
 -- the marks of the looks, in order
-abbrev pub marks_of : List Act → List CutMark
+abbrev pub marks_of : List Access → List CutMark
 marks_of [] = []
-marks_of (a_look m ∷ acts) = m ∷ marks_of acts
-marks_of (a_step o ∷ acts) = marks_of acts
+marks_of (a_look m ∷ accesses) = m ∷ marks_of accesses
+marks_of (a_step o ∷ accesses) = marks_of accesses
 
 -- the own marks of the steps, in order
-abbrev pub own_of : List Act → List OwnMark
+abbrev pub own_of : List Access → List OwnMark
 own_of [] = []
-own_of (a_look m ∷ acts) = own_of acts
-own_of (a_step o ∷ acts) = o ∷ own_of acts
+own_of (a_look m ∷ accesses) = own_of accesses
+own_of (a_step o ∷ accesses) = o ∷ own_of accesses
 
 -- what the look showed: the first `upto` entries of the cell
 abbrev pub at_mark : List Log → CutMark → Log
@@ -57,8 +57,8 @@ pub record IsOwn (me : ℕ) (seen : List Log) (had : List ℕ) (cell : ℕ) (ste
   pub appended : at_own seen o
       ≡ signed_behind me (take o.from (get_or seen o.cell [])) step
 
--- how many entries of each cell the writer has seen after the act
-abbrev pub had_after : List ℕ → Act → List ℕ
+-- how many entries of each cell the writer has seen after the access
+abbrev pub had_after : List ℕ → Access → List ℕ
 had_after had (a_look m) = set had m.cell m.upto
 had_after had (a_step o) = set had o.cell (o.from + o.count)
 

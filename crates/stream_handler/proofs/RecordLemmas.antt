@@ -1,12 +1,12 @@
--- What a connection tells of the writer's own steps.
+-- What a connection records of the writer's own steps.
 use Rattle.std.proofs.Common.{◌≡◌, ℕ, List, [], ◌++◌, ap, append-nil, sym, subst, ◌∙◌, inl, inr}
 use Rattle.shard_versions.specs.declared.cut.OwnMark.{OwnMark}
 use Rattle.shard_versions.specs.declared.cut.Record.{Record}
 use Rattle.exchange_rules.specs.Following.{Writer, counts}
 use Rattle.exchange_rules.specs.Rows.{Layout}
-use Rattle.exchange_rules.specs.Told.{AreTold}
+use Rattle.exchange_rules.specs.Recorded.{AreRecorded}
 use Rattle.exchange_rules.proofs.CountLemmas.{IsCounted, follows_counted}
-use Rattle.exchange_rules.proofs.ToldLemmas.{counted_join}
+use Rattle.exchange_rules.proofs.RecordedLemmas.{counted_join}
 use Rattle.stream_handler.specs.Exchanges.{Answer, exchanges_of, owns_of}
 use Rattle.stream_handler.specs.Requests.{request_course}
 use Rattle.stream_handler.specs.Sessions.{Wire, Exchanged, EndsBy, IsBegun, IsSession}
@@ -40,7 +40,7 @@ module _ (l : Layout) (old new : Wire) (w v : Writer) (answers : List Answer) (c
       b.exchanged.sound) in
       let then : IsCounted w.me v.seen mid (counts v.seen) rest.own c =
       subst (λ (own : List OwnMark). IsCounted w.me v.seen mid (counts v.seen) own c) (sym b.own)
-      (follows_counted w.me v.seen mid (request_course l b.message.request) b.acts b.left
+      (follows_counted w.me v.seen mid (request_course l b.message.request) b.accesses b.left
       (counts v.seen) c b.followed) in
       counted_join w.me v.seen (counts w.seen) mid (counts v.seen) (owns_of (exchanges_of answers))
       rest.own c first then
@@ -53,10 +53,10 @@ module _ (l : Layout) (old new : Wire) (w v : Writer) (answers : List Answer) (c
   ends_counted rest e (inr b) = begun_counted rest b.1
 
 -- what the writer appended is just what the own marks of the exchanges and of the rest say
-pub session_tells : {l : Layout} {old new : Wire} {w v : Writer} {exchanges : List Exchange}
+pub session_records : {l : Layout} {old new : Wire} {w v : Writer} {exchanges : List Exchange}
     {rest : Record} {e : End} → IsSession l old new w v exchanges rest e
-    → AreTold w.me v.seen (counts w.seen) (counts v.seen) (owns_of exchanges ++ rest.own)
-session_tells {l} {old} {new} {w} {v} {exchanges} {rest} {e} s =
-    subst (λ (xs : List Exchange). AreTold w.me v.seen (counts w.seen) (counts v.seen)
+    → AreRecorded w.me v.seen (counts w.seen) (counts v.seen) (owns_of exchanges ++ rest.own)
+session_records {l} {old} {new} {w} {v} {exchanges} {rest} {e} s =
+    subst (λ (xs : List Exchange). AreRecorded w.me v.seen (counts w.seen) (counts v.seen)
     (owns_of xs ++ rest.own)) (sym s.exchanges_are)
     (λ c. (ends_counted l old new w v s.answers c rest e s.over.ends).counted)

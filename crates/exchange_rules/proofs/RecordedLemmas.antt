@@ -6,11 +6,11 @@ use Rattle.shard_versions.specs.declared.cut.CutMark.{CutMark}
 use Rattle.shard_versions.specs.declared.cut.OwnMark.{OwnMark}
 use Rattle.exchange_rules.specs.Cells.{Log}
 use Rattle.exchange_rules.specs.Courses.{Course}
-use Rattle.exchange_rules.specs.Acts.{Act, a_look, a_step, between, marks_of, own_of}
+use Rattle.exchange_rules.specs.Accesses.{Access, a_look, a_step, between, marks_of, own_of}
 use Rattle.exchange_rules.specs.Following.{Follows}
 use Rattle.exchange_rules.specs.Own.{by_writer, step_at, steps_at}
 use Rattle.exchange_rules.specs.Looking.{LooksFirst, AreBehind}
-use Rattle.exchange_rules.specs.Told.{AreTold, IsLookedAt, AreLookedAt}
+use Rattle.exchange_rules.specs.Recorded.{AreRecorded, IsLookedAt, AreLookedAt}
 use Rattle.exchange_rules.proofs.CountLemmas.{IsCounted, between_join, by_writer-append, follows_counted, none_between}
 use Rattle.exchange_rules.proofs.LookingLemmas.{follows_behind}
 
@@ -48,12 +48,12 @@ counted_join me seen had mid end os ps c p q =
           ∙ sym (steps_at-append c seen os ps))));
     }
 
--- acts that follow a course tell what was appended meanwhile
-pub follows_told : {A : Type 0} (me : ℕ) (seen : List Log) (had : List ℕ) (p : Course A)
-    (acts : List Act) (q : Course A) (end : List ℕ) → Follows me seen had p acts q end
-    → AreTold me seen had end (own_of acts)
-follows_told me seen had p acts q end f =
-    λ cell. (follows_counted me seen had p acts q end cell f).counted
+-- accesses that follow a course record what was appended meanwhile
+pub follows_recorded : {A : Type 0} (me : ℕ) (seen : List Log) (had : List ℕ) (p : Course A)
+    (accesses : List Access) (q : Course A) (end : List ℕ) → Follows me seen had p accesses q end
+    → AreRecorded me seen had end (own_of accesses)
+follows_recorded me seen had p accesses q end f =
+    λ cell. (follows_counted me seen had p accesses q end cell f).counted
 
 -- with one mark more each own mark has its mark
 looked_more : (m : CutMark) (marks : List CutMark) (own : List OwnMark) → AreLookedAt marks own
@@ -67,22 +67,22 @@ with_last None marks = marks
 with_last (Some m) marks = m ∷ marks
 
 -- steps that stand right behind their looks have their marks
-behind_looked : (last : Option CutMark) (acts : List Act) → AreBehind last acts
-    → AreLookedAt (with_last last (marks_of acts)) (own_of acts)
+behind_looked : (last : Option CutMark) (accesses : List Access) → AreBehind last accesses
+    → AreLookedAt (with_last last (marks_of accesses)) (own_of accesses)
 behind_looked last [] b = tt
-behind_looked None (a_look m ∷ acts) b = behind_looked (Some m) acts b
-behind_looked (Some l) (a_look m ∷ acts) b =
-    looked_more l (m ∷ marks_of acts) (own_of acts) (behind_looked (Some m) acts b)
-behind_looked None (a_step o ∷ acts) b = absurd b.0
-behind_looked (Some l) (a_step o ∷ acts) b =
-    (inl b.0, looked_more l (marks_of acts) (own_of acts) (behind_looked None acts b.1))
+behind_looked None (a_look m ∷ accesses) b = behind_looked (Some m) accesses b
+behind_looked (Some l) (a_look m ∷ accesses) b =
+    looked_more l (m ∷ marks_of accesses) (own_of accesses) (behind_looked (Some m) accesses b)
+behind_looked None (a_step o ∷ accesses) b = absurd b.0
+behind_looked (Some l) (a_step o ∷ accesses) b =
+    (inl b.0, looked_more l (marks_of accesses) (own_of accesses) (behind_looked None accesses b.1))
 
--- so have those of acts that follow a course which looks first
+-- so have those of accesses that follow a course which looks first
 pub follows_looked : {A : Type 0} (me : ℕ) (seen : List Log) (had : List ℕ) (p : Course A)
-    (acts : List Act) (q : Course A) (end : List ℕ) → LooksFirst None p
-    → Follows me seen had p acts q end
-    → AreBehind None acts × AreLookedAt (marks_of acts) (own_of acts)
-follows_looked me seen had p acts q end first f =
-    let b : AreBehind None acts =
-    follows_behind me seen had p acts q end None None first tt f in
-    (b, behind_looked None acts b)
+    (accesses : List Access) (q : Course A) (end : List ℕ) → LooksFirst None p
+    → Follows me seen had p accesses q end
+    → AreBehind None accesses × AreLookedAt (marks_of accesses) (own_of accesses)
+follows_looked me seen had p accesses q end first f =
+    let b : AreBehind None accesses =
+    follows_behind me seen had p accesses q end None None first tt f in
+    (b, behind_looked None accesses b)
