@@ -45,9 +45,9 @@ alone_replies l seen had end [] alone i = refl
 alone_replies l seen had end (a ∷ answers) alone i =
     let course = request_course l a.message.request in
     let ran : run_alone 1 (shown had seen) course ≡ (shown i.0 seen, a.outcome) =
-    follows_alone 1 seen had course i.1.acts (ends a.outcome) i.0 alone i.1.followed in
+    follows_alone 1 seen had course i.1.accesses (ends a.outcome) i.0 alone i.1.followed in
     let later = alone_replies l seen i.0 end answers
-    (alone_after 1 seen had course i.1.acts (ends a.outcome) i.0 alone i.1.followed) i.2 in
+    (alone_after 1 seen had course i.1.accesses (ends a.outcome) i.0 alone i.1.followed) i.2 in
     ap (λ n. (said a.message.asks ++ reply_of a.message.request.closes n a.outcome) ++ replies_of answers)
     i.1.at_once
     ∙ (ap (λ r. (said a.message.asks ++ reply_of a.message.request.closes 0 a.outcome) ++ r) later
