@@ -1,8 +1,8 @@
 // The names of functions, and which of them have no answer yet.
-ghost use Rattle.std.specs.Prelude.{◌≡◌, OptionAll, option_map};
-ghost use Rattle.expr_types.specs.ExprTree.{expr_tree, operator_in, inputs_in, inputs_of};
+ghost use Rattle.std.specs.Prelude.{◌≡◌, option_map};
+ghost use Rattle.expr_types.specs.ExprTree.{expr_tree, operator_in};
 ghost use Rattle.expr_types.specs.Names.{function_name};
-ghost use Rattle.expr_types.specs.Plain.{not_yet, not_yet_at, not_yet_in};
+ghost use Rattle.expr_types.specs.Plain.{not_yet, not_yet_at};
 
 use crate::Expr;
 
@@ -38,14 +38,18 @@ impl Expr {
 
     /// The name of the first function that has no answer yet, a call before its inputs, inputs from
     /// the left to the right. Takes no memory.
-    #[cycle(walking)]
     pub fn not_yet(&self) -> Option<&'static str>
         ensures { option_map (λ name. name.now) result ≡ not_yet (expr_tree self.now) }
     {
-        match self.not_yet_here() {
-            Some(name) => Some(name),
-            None => self.not_yet_in_inputs(),
+        if let Some(name) = self.not_yet_here() {
+            return Some(name);
         }
+        for k in 0..self.input_count() {
+            if let Some(name) = self.input(k).not_yet() {
+                return Some(name);
+            }
+        }
+        None
     }
 
     // The name of the function itself, where it has no answer yet.
@@ -76,19 +80,5 @@ impl Expr {
             | Expr::HashJoin { .. }
             | Expr::OuterHashJoin { .. } => None,
         }
-    }
-
-    // The same of its inputs.
-    #[cycle(walking)]
-    fn not_yet_in_inputs(&self) -> Option<&'static str>
-        ensures { option_map (λ name. name.now) result
-            ≡ not_yet_in (inputs_of (inputs_in (expr_tree self.now))) }
-    {
-        for k in 0..self.input_count() {
-            if let Some(name) = self.input(k).not_yet() {
-                return Some(name);
-            }
-        }
-        None
     }
 }
