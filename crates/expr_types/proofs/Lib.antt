@@ -1,4 +1,5 @@
 pub mod TreeLemmas
+pub mod PlainLemmas
 pub mod GroupLemmas
 pub mod OrderLemmas
 pub mod JoinLemmas

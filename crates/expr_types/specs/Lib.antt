@@ -9,7 +9,9 @@ pub mod Rows
 pub mod Groups
 pub mod Joins
 pub mod Limits
+pub mod Names
 pub mod Rules
+pub mod Plain
 pub mod Parts
 pub mod Lists
 pub mod Planned

@@ -1,6 +1,6 @@
 -- What is so of each function, in one row of a table (Solr Reference Guide, "Stream Source
 -- Reference" and "Stream Decorator Reference"; limits own).
-use Rattle.std.specs.Prelude.{ℕ, ◌≡◌, ◌==◌, nat_le, List, [], ◌∷◌, codes}
+use Rattle.std.specs.Prelude.{ℕ, ◌≡◌, ◌==◌, nat_le, List, [], ◌∷◌, length, codes}
 use Rattle.std.specs.Prelude.{Bool, true, false, not, ◌&&◌, Ok}
 use Rattle.std.specs.List.{AllByRecursion, list_all}
 use Rattle.tuple_values.specs.Document.{ByteList, Doc, is_named}
@@ -10,7 +10,9 @@ use Rattle.sort_spec.specs.Terms.{less}
 use Rattle.sort_spec.specs.declared.pair.OnPair.{OnPair}
 use Rattle.expr_types.specs.Joins.{join_list, outer_join_list, exist_list, IsJoinable}
 use Rattle.expr_types.specs.Sources.{search_list}
-use Rattle.expr_types.specs.Limits.{count_limit, row_limit, is_between, may_be_between}
+use Rattle.expr_types.specs.Limits.{count_limit, row_limit, checkpoint_limit, id_limit}
+use Rattle.expr_types.specs.Limits.{worker_limit, batch_limit, interval_limit}
+use Rattle.expr_types.specs.Limits.{is_between, may_be_between}
 use Rattle.expr_types.specs.Orders.{sort_list, top_list, merge_list, IsSortedOver}
 use Rattle.expr_types.specs.Conditions.{having_list}
 use Rattle.expr_types.specs.Rows.{select_list}
@@ -42,6 +44,8 @@ pub record Rule : Type 1 where
   pub is_well : ℕ → Bool
   -- what it takes from elsewhere than its inputs
   pub source : Source
+  -- whether it only reads documents, and gives a list of them
+  pub is_plain : Bool
 
 -- what goes once over one input, in whatever order
 abbrev pub of_one : (List Doc → List Doc) → Rule
@@ -50,6 +54,7 @@ of_one work = record {
   Needs = λ lists. Unit {0};
   is_well = λ inputs. inputs == 1;
   source = no_source;
+  is_plain = true;
 }
 
 -- what goes once over two inputs, in whatever order
@@ -59,6 +64,7 @@ of_two work = record {
   Needs = λ lists. Unit {0};
   is_well = λ inputs. inputs == 2;
   source = no_source;
+  is_plain = true;
 }
 
 -- what needs its inputs sorted over names
@@ -74,13 +80,15 @@ joined_on on rule = record rule { Needs = IsJoinable on }
 abbrev pub only_where : Bool → Rule → Rule
 only_where fits rule = record rule { is_well = λ inputs. rule.is_well inputs && fits }
 
--- what no plan gives yet, and no stream stands for
-abbrev pub not_yet : Rule
-not_yet = record {
+-- what follows a topic or changes a collection, over one input: no list of documents stands for it,
+-- and whatever is said of lists is said of expressions that hold no such function
+abbrev pub by_effect : Rule
+by_effect = record {
   gives = λ docs lists. [];
-  Needs = λ lists. ⊥;
-  is_well = λ inputs. false;
+  Needs = λ lists. Unit {0};
+  is_well = λ inputs. inputs == 1;
   source = no_source;
+  is_plain = false;
 }
 
 -- the table
@@ -90,12 +98,14 @@ rule_of (search p) = record {
   Needs = λ lists. Unit {0};
   is_well = λ inputs. inputs == 0 && may_be_between 0 row_limit p.rows;
   source = searched p;
+  is_plain = true;
 }
 rule_of (tuple fields) = record {
   gives = λ docs lists. fields ∷ [];
   Needs = λ lists. Unit {0};
   is_well = λ inputs. inputs == 0;
   source = literal fields;
+  is_plain = true;
 }
 rule_of (select items) = of_one (select_list items)
 rule_of (having condition) = of_one (having_list condition)
@@ -107,6 +117,7 @@ rule_of (merge on) = record {
   Needs = λ lists. AllByRecursion (IsAscending (less on)) lists;
   is_well = λ inputs. nat_le 2 inputs;
   source = no_source;
+  is_plain = true;
 }
 rule_of (reduce by op) =
     only_where (not (is_named (codes "group") by))
@@ -120,11 +131,18 @@ rule_of (intersect on) = joined_on on (of_two (exist_list true on))
 rule_of (complement on) = joined_on on (of_two (exist_list false on))
 rule_of (hash_join on) = of_two (join_list on)
 rule_of (outer_hash_join on) = of_two (outer_join_list on)
-rule_of (in_parallel collection workers by) = not_yet
-rule_of (topic p) = record not_yet { source = followed p }
-rule_of (update dest size) = not_yet
-rule_of (commit dest size) = not_yet
-rule_of (daemon id interval terminate) = not_yet
+rule_of (in_parallel collection workers by) =
+    only_where (is_between 1 worker_limit workers) (of_one (λ docs. docs))
+rule_of (topic p) = record by_effect {
+  is_well = λ inputs. inputs == 0
+      && (is_between 1 id_limit (length p.id) && may_be_between 0 checkpoint_limit p.init);
+  source = followed p;
+}
+rule_of (update dest size) = only_where (is_between 1 batch_limit size) by_effect
+rule_of (commit dest size) = only_where (may_be_between 0 batch_limit size) by_effect
+rule_of (daemon id interval terminate) =
+    only_where (is_between 1 id_limit (length id))
+    (only_where (is_between 0 interval_limit interval) by_effect)
 
 -- what an operator gives of the lists of its inputs
 abbrev pub given : Collections → Operator → List (List Doc) → List Doc

@@ -7,6 +7,7 @@ mod expr;
 mod item;
 mod joining;
 mod naming;
+mod not_yet;
 mod source_copies;
 #[cfg(test)]
 mod tests;
