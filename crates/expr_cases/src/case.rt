@@ -1,4 +1,5 @@
 // One case, carried out at a site.
+use expr_check::Roots;
 use form_request::{Handler, Param, Params, Request};
 use json_text::tuple_text;
 use std::alloc::Global;
@@ -59,7 +60,10 @@ pub fn answer(alloc: Global, site: &mut PlainSite, case: &str) -> Result<Bytes, 
             let request = update(alloc, collection, body)?;
             run_request(alloc, site, &request)?
         }
-        None => run_expression(alloc, site, case.as_bytes())?,
+        None => match case.strip_prefix("eval ") {
+            Some(text) => run_expression(alloc, site, text.as_bytes(), Roots::Plain)?,
+            None => run_expression(alloc, site, case.as_bytes(), Roots::All)?,
+        },
     };
     line_of(alloc, outcome)
 }

@@ -21,8 +21,8 @@ kind law bytes (Err OutOfMemory) h = absurd (law.no_memory bytes h)
 -- what bytes are told goes by what they are
 pub told : AreReadings read_of → Agrees expression_of
 told law = record {
-  calls = λ names bytes tree w. ap (plan_told names) ((law.expressions bytes tree).1 w);
-  large = λ names bytes h. ap (plan_told names) ((law.large bytes).1 h);
-  faults = λ names bytes at h. ap (plan_told names) ((law.faults bytes at).1 h);
+  calls = λ roots names bytes tree w. ap (plan_told roots names) ((law.expressions bytes tree).1 w);
+  large = λ roots names bytes h. ap (plan_told roots names) ((law.large bytes).1 h);
+  faults = λ roots names bytes at h. ap (plan_told roots names) ((law.faults bytes at).1 h);
   all = λ bytes. kind law bytes (read_of bytes) refl;
 }

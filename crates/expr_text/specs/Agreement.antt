@@ -8,6 +8,7 @@ use Rattle.expr_reader.specs.Grammar.{IsTooLarge}
 use Rattle.expr_reader.specs.Tree.{CallTree}
 use Rattle.expr_types.specs.ExprTree.{ExprTree}
 use Rattle.expr_plan.specs.Walk.{planned}
+use Rattle.expr_check.specs.declared.roots.Roots.{Roots}
 use Rattle.expr_text.specs.Reading.{check_told}
 
 -- what bytes are: a call within the limits, too large, or no expression from a place on
@@ -18,11 +19,12 @@ pub data IsText (bytes : ByteList) : Type 0 where
 
 -- what bytes are told goes by what they are: a call is planned and checked, and what else they are
 -- is told as such; and all bytes are one of these
-pub record Agrees (read : List NameShards → ByteList → Result ExprTree ByteList) : Type 0 where
-  pub calls : (names : List NameShards) (bytes : ByteList) (tree : CallTree)
-      → IsWithin bytes tree → read names bytes ≡ check_told names (planned tree)
-  pub large : (names : List NameShards) (bytes : ByteList)
-      → IsTooLarge bytes → read names bytes ≡ Err (codes "TooLarge")
-  pub faults : (names : List NameShards) (bytes : ByteList) (at : ℕ)
-      → IsFault bytes at → read names bytes ≡ Err (codes "Syntax at " ++ decimal at)
+pub record Agrees (read : Roots → List NameShards → ByteList → Result ExprTree ByteList)
+    : Type 0 where
+  pub calls : (roots : Roots) (names : List NameShards) (bytes : ByteList) (tree : CallTree)
+      → IsWithin bytes tree → read roots names bytes ≡ check_told roots names (planned tree)
+  pub large : (roots : Roots) (names : List NameShards) (bytes : ByteList)
+      → IsTooLarge bytes → read roots names bytes ≡ Err (codes "TooLarge")
+  pub faults : (roots : Roots) (names : List NameShards) (bytes : ByteList) (at : ℕ)
+      → IsFault bytes at → read roots names bytes ≡ Err (codes "Syntax at " ++ decimal at)
   pub all : (bytes : ByteList) → IsText bytes

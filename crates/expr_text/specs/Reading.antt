@@ -16,8 +16,9 @@ use Rattle.expr_check.specs.Walk.{fault_of}
 use Rattle.expr_check.specs.Views.{tree_of}
 use Rattle.expr_check.specs.declared.checked.Checked.{Checked}
 use Rattle.expr_check.specs.declared.fault.CheckFault.{CheckFault}
-use Rattle.expr_text.specs.declared.fault.PlainFault.{PlainFault}
-use Rattle.expr_text.specs.declared.fault.PlainFault.TheVariants.{Told, OutOfMemory}
+use Rattle.expr_check.specs.declared.roots.Roots.{Roots}
+use Rattle.expr_text.specs.declared.fault.TextFault.{TextFault}
+use Rattle.expr_text.specs.declared.fault.TextFault.TheVariants.{Told, OutOfMemory}
 
 -- an expression, unless it has a fault
 abbrev pub unless_fault : ExprTree → Option CheckFault → Result ExprTree ByteList
@@ -25,25 +26,27 @@ unless_fault e None = Ok e
 unless_fault e (Some fault) = Err (check.fault_text fault)
 
 -- an expression over these collections, unless it has a fault
-abbrev pub checked : List NameShards → ExprTree → Result ExprTree ByteList
-checked names e = unless_fault e (fault_of names e)
+abbrev pub checked : Roots → List NameShards → ExprTree → Result ExprTree ByteList
+checked roots names e = unless_fault e (fault_of roots names e)
 
 -- a planned expression and then its check
-abbrev pub check_told : List NameShards → Result ExprTree PlanFault → Result ExprTree ByteList
-check_told names (Err fault) = Err (plan.fault_text fault)
-check_told names (Ok e) = checked names e
+abbrev pub check_told : Roots → List NameShards → Result ExprTree PlanFault
+    → Result ExprTree ByteList
+check_told roots names (Err fault) = Err (plan.fault_text fault)
+check_told roots names (Ok e) = checked roots names e
 
 -- a call that was read, and then its plan
-abbrev pub plan_told : List NameShards → Result CallTree ExprFault → Result ExprTree ByteList
-plan_told names (Err fault) = Err (read.fault_text fault)
-plan_told names (Ok c) = check_told names (planned c)
+abbrev pub plan_told : Roots → List NameShards → Result CallTree ExprFault
+    → Result ExprTree ByteList
+plan_told roots names (Err fault) = Err (read.fault_text fault)
+plan_told roots names (Ok c) = check_told roots names (planned c)
 
 -- the expression that bytes say, or what a reply says of their first fault
-abbrev pub expression_of : List NameShards → ByteList → Result ExprTree ByteList
-expression_of names bytes = plan_told names (read_of bytes)
+abbrev pub expression_of : Roots → List NameShards → ByteList → Result ExprTree ByteList
+expression_of roots names bytes = plan_told roots names (read_of bytes)
 
 -- the answer is the wanted one, unless memory was wanting
-abbrev pub IsTold : Result ExprTree ByteList → Result Checked PlainFault → Type 0
+abbrev pub IsTold : Result ExprTree ByteList → Result Checked TextFault → Type 0
 IsTold wanted (Ok checked) = wanted ≡ Ok (tree_of checked)
 IsTold wanted (Err (Told text)) = wanted ≡ Err text
 IsTold wanted (Err OutOfMemory) = Unit {0}

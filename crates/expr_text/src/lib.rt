@@ -7,6 +7,6 @@ mod reading;
 #[cfg(test)]
 mod tests;
 
-pub use fault::PlainFault;
+pub use fault::TextFault;
 pub use laws::texts_agree;
-pub use reading::read_plain;
+pub use reading::read_checked;

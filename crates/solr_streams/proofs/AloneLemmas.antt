@@ -17,8 +17,8 @@ use Rattle.exchange_rules.proofs.AloneLemmas.{answers_alone}
 use Rattle.expr_types.specs.ExprTree.{ExprTree}
 use Rattle.stream_site.specs.Plains.{Plain, empty_site, layout_of, writer_of}
 use Rattle.expr_check.specs.Walk.{collections_of}
-use Rattle.expr_text.specs.Reading.{expression_of}
-use Rattle.stream_handler.specs.Expressions.{list_over}
+use Rattle.expr_check.specs.declared.roots.Roots.TheVariants.{Plain as Reads}
+use Rattle.stream_handler.specs.Expressions.{list_over, asked_of}
 use Rattle.stream_handler.specs.Requests.{plain_course}
 use Rattle.stream_handler.specs.declared.outcome.Outcome.{Outcome}
 use Rattle.stream_handler.specs.declared.outcome.Outcome.TheVariants.{ResultSet}
@@ -90,20 +90,20 @@ pub alone_outcome-is : (names : List NameShards) (bytes : ByteList)
     → alone_outcome names bytes ≡ outcome_of (meaning names bytes)
 alone_outcome-is names bytes =
     expression_alone 1 (logs_at_start names) (new_logs (cells_in names)) (layout names)
-    (expression_of names bytes)
+    (asked_of Reads names bytes)
 
 -- what was answered at a new site without another writer
 pub answered_alone : (old new : Plain) (names : List NameShards) (bytes : ByteList) (o : Outcome)
     → old ≡ empty_site names 268435456
     → ((had : List ℕ) → IsAlone 1 had (writer_of new).seen)
     → Answers (writer_of old) (writer_of new)
-    (plain_course (layout_of old) (expression_of (layout_of old).names bytes)) o
+    (plain_course (layout_of old) (asked_of Reads (layout_of old).names bytes)) o
     → o ≡ alone_outcome names bytes
 answered_alone old new names bytes o is alone a =
-    let course = plain_course (layout_of old) (expression_of (layout_of old).names bytes) in
+    let course = plain_course (layout_of old) (asked_of Reads (layout_of old).names bytes) in
     let e =
     answers_alone (writer_of old) (writer_of new) course o (alone (counts (writer_of old).seen))
     a in
     subst (λ (p : Plain). o ≡ (run_alone 1 (writer_of p).seen
-    (plain_course (layout_of p) (expression_of (layout_of p).names bytes))).1) is
+    (plain_course (layout_of p) (asked_of Reads (layout_of p).names bytes))).1) is
     (sym (ap (λ (r : List Log × Outcome). r.1) e))

@@ -7,6 +7,7 @@ ghost use Rattle.solr_streams.specs.Replies.{alone_outcome, meaning, outcome_of}
 
 use crate::ending::Ending;
 use crate::input::{ReadFault, read_input};
+use expr_check::Roots;
 use io_edge::{Put, Sink, Source};
 use std::alloc::Global;
 use stream_handler::{Outcome, run_expression};
@@ -36,7 +37,7 @@ fn evaluate(alloc: Global, names: Names, bytes: &[u8]) -> Result<Outcome, Memory
     ensures meant { IfOk result (λ outcome. outcome ≡ outcome_of (meaning names bytes.now)) }
 {
     let mut site = PlainSite::start(alloc, names, SHARD_LIMIT)?;
-    let outcome = run_expression(alloc, &mut site, bytes)?;
+    let outcome = run_expression(alloc, &mut site, bytes, Roots::Plain)?;
 
     // Its contract says that the site had no other writer.
     let _ = site.names();

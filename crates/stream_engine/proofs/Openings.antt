@@ -10,17 +10,21 @@ use Rattle.sort_spec.specs.Sorting.{IsAscending}
 use Rattle.sort_spec.specs.Terms.{less}
 use Rattle.sort_spec.specs.declared.pair.OnPair.{OnPair}
 use Rattle.sort_spec.specs.declared.term.SortTerm.{SortTerm}
-use Rattle.expr_types.specs.ExprTree.{Operator, ExprTree, inputs_of, inputs_in, operator_in}
+use Rattle.expr_types.specs.ExprTree.{Operator, ExprTree, node, inputs_of, inputs_in, operator_in}
 use Rattle.expr_types.specs.ExprTree.{expr_list, first_or, second_or}
 use Rattle.expr_types.specs.Joins.{AreJoinable, left_names}
 use Rattle.expr_types.specs.Rules.{Collections, given, AreAsNeeded}
 use Rattle.expr_types.specs.Lists.{list_of, lists_of}
 use Rattle.expr_types.specs.Orders.{IsSortedOver, sort_over}
+use Rattle.expr_types.specs.Plain.{not_yet, not_yet_at, not_yet_in}
 use Rattle.expr_types.specs.Planned.{AreWell, AreAllWell}
+use Rattle.expr_types.proofs.PlainLemmas.{answered_inputs, all_answered_plain}
 use Rattle.expr_types.proofs.TreeLemmas.{node-parts}
-use Rattle.expr_check.specs.Orders.{AreInOrder}
-use Rattle.expr_check.specs.Rules.{fault_at}
-use Rattle.expr_check.specs.Walk.{orders_of, own_fault, faults_where}
+use Rattle.expr_check.specs.Orders.{AreInOrder, directions_of}
+use Rattle.expr_check.proofs.JoinLemmas.{joinable}
+use Rattle.expr_check.specs.Rules.{need_at, itself_at}
+use Rattle.expr_check.specs.Walk.{orders_of, own_fault, own_faults, own_at, followed_in}
+use Rattle.expr_check.specs.Faults.{join_fault}
 use Rattle.expr_check.specs.declared.order.Order.{Order}
 use Rattle.expr_check.proofs.FaultLemmas.{none_first, none_second}
 use Rattle.expr_check.proofs.LawLemmas.{hold_all, needs_hold}
@@ -31,13 +35,17 @@ use Rattle.stream_engine.specs.Flows.{Flow, rests_of}
 
 -- an expression without a fault has none of its own, and none in its inputs
 fault_parts : (t : ExprTree) → own_fault t ≡ None
-    → (fault_at (λ name. true) (operator_in t) (orders_of (inputs_of (inputs_in t))) ≡ None)
-    × (faults_where (λ name. true) (inputs_of (inputs_in t)) ≡ None)
+    → (need_at (operator_in t) (orders_of (inputs_of (inputs_in t))) ≡ None)
+    × (own_faults (inputs_of (inputs_in t)) ≡ None)
 fault_parts t none =
-    let own = fault_at (λ name. true) (operator_in t) (orders_of (inputs_of (inputs_in t))) in
-    let inner = faults_where (λ name. true) (inputs_of (inputs_in t)) in
-    let both : option_or own inner ≡ None = sym (fault_where-parts (λ name. true) t) ∙ none in
-    (none_first own inner both, none_second own inner both)
+    let op = operator_in t in
+    let inputs = inputs_of (inputs_in t) in
+    let both : option_or (own_at op inputs) (own_faults inputs) ≡ None =
+    ap own_fault (node-parts t) ∙ none in (
+      none_second (itself_at op (followed_in inputs)) (need_at op (orders_of inputs))
+          (none_first (own_at op inputs) (own_faults inputs) both),
+      none_second (own_at op inputs) (own_faults inputs) both,
+    )
 
 -- the list of an expression is that of its operator over the lists of its inputs
 pub list_of-parts : (docs : Collections) (t : ExprTree)
@@ -47,19 +55,21 @@ list_of-parts docs t = ap (list_of docs) (sym (node-parts t))
 -- what is known of an operator over inputs of these orders, with these lists
 pub record IsReadyOver (op : Operator) (orders : List Order) (lists : List (List Doc)) : Type 0 where
   pub sorted : AreAsNeeded op lists
-  pub faultless : fault_at (λ name. true) op orders ≡ None
+  pub faultless : need_at op orders ≡ None
   pub in_order : AreInOrder orders lists
 
 -- it holds of the operator of an expression without a fault
 pub ready_over : (docs : Collections) (t : ExprTree) → AreWell t → own_fault t ≡ None
+    → not_yet t ≡ None
     → IsReadyOver (operator_in t) (orders_of (inputs_of (inputs_in t)))
     (lists_of docs (inputs_of (inputs_in t)))
-ready_over docs t well none =
+ready_over docs t well none answered =
     let op = operator_in t in
     let inputs = inputs_of (inputs_in t) in
     let parts = subst AreWell (sym (node-parts t)) well in
     let here = fault_parts t none in
-    let held = hold_all docs inputs parts.1.1 here.1 in
+    let plain = all_answered_plain inputs (answered_inputs t answered) in
+    let held = hold_all docs inputs plain parts.1.1 here.1 in
     record {
       sorted =
           needs_hold op (length (expr_list inputs)) (orders_of inputs) (lists_of docs inputs)
@@ -70,16 +80,16 @@ ready_over docs t well none =
 
 -- also of orders and lists that are found
 pub ready_found : (docs : Collections) (t : ExprTree) (orders : List Order)
-    (lists : List (List Doc)) → AreWell t → own_fault t ≡ None
+    (lists : List (List Doc)) → AreWell t → own_fault t ≡ None → not_yet t ≡ None
     → orders ≡ orders_of (inputs_of (inputs_in t))
     → lists ≡ lists_of docs (inputs_of (inputs_in t))
     → IsReadyOver (operator_in t) orders lists
-ready_found docs t orders lists well none are gives =
+ready_found docs t orders lists well none answered are gives =
     subst (λ (l : List (List Doc)). IsReadyOver (operator_in t) orders l) (sym gives)
     (subst
     (λ (o : List Order).
     IsReadyOver (operator_in t) o (lists_of docs (inputs_of (inputs_in t))))
-    (sym are) (ready_over docs t well none))
+    (sym are) (ready_over docs t well none answered))
 
 -- the inputs of an expression that a plan gives are such
 pub well_inputs : (t : ExprTree) → AreWell t → AreAllWell (inputs_of (inputs_in t))
@@ -87,7 +97,7 @@ well_inputs t well = (subst AreWell (sym (node-parts t)) well).1.1
 
 -- and have no fault where it has none
 pub faultless_inputs : (t : ExprTree) → own_fault t ≡ None
-    → faults_where (λ name. true) (inputs_of (inputs_in t)) ≡ None
+    → own_faults (inputs_of (inputs_in t)) ≡ None
 faultless_inputs t none = (fault_parts t none).1
 
 -- the expressions from a place on are the one there and the rest
@@ -105,13 +115,13 @@ well_more exprs k e lt is well =
 
 -- where they have no fault, neither has the one there nor the rest
 pub faultless_more : (exprs : List ExprTree) (k : ℕ) (e : ExprTree) → k < length exprs
-    → e ≡ get_or exprs k e → faults_where (λ name. true) (inputs_of (drop k exprs)) ≡ None
+    → e ≡ get_or exprs k e → own_faults (inputs_of (drop k exprs)) ≡ None
     → (own_fault e ≡ None)
-    × (faults_where (λ name. true) (inputs_of (drop (k + 1) exprs)) ≡ None)
+    × (own_faults (inputs_of (drop (k + 1) exprs)) ≡ None)
 faultless_more exprs k e lt is none =
-    let rest = faults_where (λ name. true) (inputs_of (drop (k + 1) exprs)) in
+    let rest = own_faults (inputs_of (drop (k + 1) exprs)) in
     let both : option_or (own_fault e) rest ≡ None =
-    sym (ap (λ l. faults_where (λ name. true) (inputs_of l)) (from_place exprs k e lt is)) ∙ none in
+    sym (ap (λ l. own_faults (inputs_of l)) (from_place exprs k e lt is)) ∙ none in
     (none_first (own_fault e) rest both, none_second (own_fault e) rest both)
 
 -- what the streams so far and one more give, and what the inputs to come give, is all
@@ -195,4 +205,18 @@ read_orders on directions order lists is joinable = (
   subst (λ (l : List SortTerm). IsAscending (less l) (second_or [] lists))
       (sym (ap (λ o. right_order (terms_of on o)) is ∙ right_order-sort_over on directions))
       joinable.rights,
+)
+
+-- two inputs of what needs them in the order of pairs are two, and may be joined
+pub two_joinable : (function : ByteList) (on : List OnPair) (op : Operator)
+    → ((orders : List Order) → need_at op orders ≡ join_fault function on orders)
+    → (t l r : ExprTree) → t ≡ node op (inputs_of (l ∷ r ∷ [])) → (orders : List Order)
+    (flows : List Flow) → length flows ≡ length (inputs_in t)
+    → need_at (operator_in t) orders ≡ None → AreInOrder orders (rests_of flows)
+    → (length flows ≡ 2) × AreJoinable on (directions_of orders) (rests_of flows)
+two_joinable function on op same t l r whole orders flows width faultless in_order = (
+  width ∙ ap (λ (w : ExprTree). length (inputs_in w)) whole,
+  joinable function on orders (rests_of flows)
+      (sym (same orders) ∙ sym (ap (λ (w : ExprTree). need_at (operator_in w) orders) whole)
+      ∙ faultless) in_order,
 )

@@ -1,17 +1,18 @@
 // Expressions, opened as streams.
-ghost use Rattle.std.specs.Prelude.{◌≡◌, IfOk, IsSome, None, [], List, length, true, false};
+ghost use Rattle.std.specs.Prelude.{◌≡◌, IfOk, IsSome, None, [], List, length, false};
 ghost use Rattle.tuple_values.specs.Document.{Doc};
 ghost use Rattle.expr_types.specs.ExprTree.{inputs_in, inputs_of, operator_in, first_or};
 ghost use Rattle.expr_types.specs.ExprTree.{expr_tree};
 ghost use Rattle.expr_types.specs.Rules.{Collections, given, AreAsNeeded};
 ghost use Rattle.expr_types.specs.Lists.{list_of, lists_of};
+ghost use Rattle.expr_types.specs.Plain.{not_yet, not_yet_at, not_yet_in};
 ghost use Rattle.expr_types.specs.Planned.{AreWell, AreAllWell};
 ghost use Rattle.expr_types.specs.Parts.{search_parts, tuple_fields};
 ghost use Rattle.expr_check.specs.Orders.{AreInOrder};
-ghost use Rattle.expr_check.specs.Rules.{fault_at};
+ghost use Rattle.expr_check.specs.Rules.{need_at};
 ghost use Rattle.expr_check.specs.Views.{tree_of};
 ghost use Rattle.expr_check.specs.Walk.{order_of, orders_of, fields_of, all_fields};
-ghost use Rattle.expr_check.specs.Walk.{own_fault, faults_where};
+ghost use Rattle.expr_check.specs.Walk.{own_fault, own_faults};
 ghost use Rattle.source_streams.specs.Cuts.{documents_of};
 ghost use Rattle.stream_engine.specs.Flows.{rests_of};
 
@@ -27,11 +28,11 @@ use std::alloc::Global;
 use tuple_values::{FieldList, Memory, Tuples};
 
 /// Lists of tuples that a stream is fed with: one for each outermost `parallel`, from the left to the
-/// right. No expression has one yet.
+/// right. None is opened yet.
 pub type Feeds = Vec<Tuples>;
 
-/// The stream of a checked expression over a cut, which holds each shard of its collections. Only the
-/// whole part can be opened yet.
+/// The stream of a checked expression, whose functions all have an answer, over a cut, which holds
+/// each shard of its collections. Only the whole part can be opened yet.
 pub fn open_stream(
     alloc: Global,
     checked: &Checked,
@@ -40,6 +41,7 @@ pub fn open_stream(
     part: Part,
 ) -> Result<Stream, Memory>
     requires feeds { feeds.items ≡ [] }
+    requires answered { not_yet (tree_of checked.now) ≡ None }
     requires whole { (part.index ≡ 0) × (part.of ≡ 1) }
     ensures list { IfOk result (λ stream. stream.0
         ≡ list_of (λ c. documents_of c cut.now) (tree_of checked.now)) }
@@ -72,6 +74,7 @@ struct OpenedInputs {
 fn open_expr(alloc: Global, expr: &Expr, cut: &Cut, part: Part) -> Result<Opened, Memory>
     requires planned { AreWell (expr_tree expr.now) }
     requires faultless { own_fault (expr_tree expr.now) ≡ None }
+    requires answered { not_yet (expr_tree expr.now) ≡ None }
     requires whole { (part.index ≡ 0) × (part.of ≡ 1) }
     ensures list { IfOk result (λ opened. opened.stream.0
         ≡ list_of (λ c. documents_of c cut.now) (expr_tree expr.now)) }
@@ -98,8 +101,8 @@ fn open_expr(alloc: Global, expr: &Expr, cut: &Cut, part: Part) -> Result<Opened
 #[cycle(opening)]
 fn open_inputs(alloc: Global, expr: &Expr, cut: &Cut, part: Part) -> Result<OpenedInputs, Memory>
     requires planned { AreAllWell (inputs_of (inputs_in (expr_tree expr.now))) }
-    requires faultless { faults_where (λ name. true) (inputs_of (inputs_in (expr_tree expr.now)))
-        ≡ None }
+    requires faultless { own_faults (inputs_of (inputs_in (expr_tree expr.now))) ≡ None }
+    requires answered { not_yet_in (inputs_of (inputs_in (expr_tree expr.now))) ≡ None }
     requires whole { (part.index ≡ 0) × (part.of ≡ 1) }
     ensures lists { IfOk result (λ opened. rests_of opened.streams.items
         ≡ lists_of (λ c. documents_of c cut.now) (inputs_of (inputs_in (expr_tree expr.now)))) }
@@ -134,8 +137,8 @@ fn open_over(
     part: Part,
 ) -> Result<Stream, Memory>
     requires sorted { AreAsNeeded (operator_in (expr_tree expr.now)) (rests_of inputs.items) }
-    requires faultless { fault_at (λ name. true) (operator_in (expr_tree expr.now)) orders.now
-        ≡ None }
+    requires faultless { need_at (operator_in (expr_tree expr.now)) orders.now ≡ None }
+    requires answered { not_yet_at (operator_in (expr_tree expr.now)) ≡ None }
     requires in_order { AreInOrder orders.now (rests_of inputs.items) }
     requires width { length inputs.items ≡ length (inputs_in (expr_tree expr.now)) }
     requires whole { (part.index ≡ 0) × (part.of ≡ 1) }

@@ -25,7 +25,8 @@ use Rattle.expr_types.specs.ExprTree.{ExprTree}
 use Rattle.expr_check.specs.Walk.{collections_of}
 use Rattle.topic_book.specs.Fitness.{shards_of}
 use Rattle.stream_handler.specs.Exchanges.{Answer, AreSound, IsAnswered, IsSound, exchanges_of, owns_of}
-use Rattle.expr_text.specs.Reading.{expression_of}
+use Rattle.expr_check.specs.declared.roots.Roots.TheVariants.{All}
+use Rattle.stream_handler.specs.Expressions.{asked_of}
 use Rattle.stream_handler.specs.Outcomes.{reply_of}
 use Rattle.stream_handler.specs.Refusals.{refusal}
 use Rattle.stream_handler.specs.Requests.{RequestsLookFirst, handled, is_true, plain_course, request_course, stream_course, update_course}
@@ -43,7 +44,7 @@ plain_first l (Ok e) =
 -- so does one in a parameter
 stream_first : (l : Layout) (given : Option ByteList) → LooksFirst None (stream_course l given)
 stream_first l None = tt
-stream_first l (Some bytes) = plain_first l (expression_of l.names bytes)
+stream_first l (Some bytes) = plain_first l (asked_of All l.names bytes)
 
 -- so does an update
 update_first : (l : Layout) (collection : ByteList) (commit : Bool)

@@ -21,8 +21,8 @@ use Rattle.json_text.specs.declared.fault.JsonFault.TheVariants as bad
 use Rattle.json_text.specs.declared.update.Update as body
 use Rattle.expr_types.specs.ExprTree.{ExprTree}
 use Rattle.expr_check.specs.Walk.{collections_of}
-use Rattle.expr_text.specs.Reading.{expression_of}
-use Rattle.stream_handler.specs.Expressions.{list_over}
+use Rattle.stream_handler.specs.Expressions.{list_over, asked_of}
+use Rattle.expr_check.specs.declared.roots.Roots.TheVariants.{All}
 use Rattle.topic_book.specs.Fitness.{shards_of}
 use Rattle.stream_handler.specs.Outcomes.{exception}
 use Rattle.stream_handler.specs.Refusals.{refusal}
@@ -77,7 +77,7 @@ update_course l collection commit (Ok update) =
     and_then (index_course l collection update.writes (update.commit || commit))
     (λ r. ends (indexed r))
 
--- an expression that was read and checked: a cut of its collections, and what it gives over it
+-- an expression that is asked for: a cut of its collections, and what it gives over it
 abbrev pub plain_course : Layout → Result ExprTree ByteList → Course Outcome
 plain_course l (Err text) = ends (exception text)
 plain_course l (Ok e) =
@@ -87,7 +87,7 @@ plain_course l (Ok e) =
 -- the expression of a parameter, which has to be there
 abbrev pub stream_course : Layout → Option ByteList → Course Outcome
 stream_course l None = ends (exception (codes "MissingParam stream expr"))
-stream_course l (Some bytes) = plain_course l (expression_of l.names bytes)
+stream_course l (Some bytes) = plain_course l (asked_of All l.names bytes)
 
 -- whether a parameter asks for a commit: `true` alone does
 abbrev pub is_true : Option ByteList → Bool

@@ -19,7 +19,7 @@ mod waiting;
 pub use connection::serve_connection;
 pub use ending::{End, OneEnd, SessionEnd};
 pub use exchange::{Answered, Exchange, Exchanges, answer};
-pub use expression::run_expression;
+pub use expression::{not_yet, run_expression};
 pub use laws::requests_look_first;
 pub use outcome::Outcome;
 pub use request::run_request;

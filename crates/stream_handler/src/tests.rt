@@ -1,6 +1,7 @@
 // What no clause can say: that the courses and replies mean what the rules say, and that each call
 // that takes memory succeeds. Of two shards the second holds id `2` and the first id `3`.
 use crate::{End, SessionEnd, run_expression, run_request, serve_connection};
+use expr_check::Roots;
 use form_request::{Handler, Param, Params, Request};
 use io_edge::{MemorySink, MemorySource};
 use std::alloc::Global;
@@ -149,7 +150,7 @@ fn expressions_are_answered(rt: HostRuntime) -> Result<(), Fail> {
     ];
     for (expr, docs) in cases {
         let mut site = site(alloc)?;
-        let outcome = run_expression(alloc, &mut site, expr.as_bytes())?;
+        let outcome = run_expression(alloc, &mut site, expr.as_bytes(), Roots::All)?;
         let body = outcome.body(alloc, 0)?;
         let wanted = format!(in alloc; "{{\"result-set\":{{\"docs\":[{docs}]}}}}")?;
         assert!(rt; body.as_slice() == wanted.as_bytes());

@@ -5,6 +5,7 @@ use Rattle.expr_types.specs.ExprTree.{inputs_in, inputs_of, operator_in}
 use Rattle.expr_types.specs.ExprTree.{expr_tree}
 use Rattle.expr_types.specs.Rules.{Collections, given}
 use Rattle.expr_types.specs.Lists.{lists_of}
+use Rattle.expr_types.proofs.PlainLemmas.{answered_here, answered_inputs, answered_more}
 use Rattle.expr_check.specs.Rules.{order_given, fields_given}
 use Rattle.expr_check.specs.Walk.{order_of, orders_of, fields_of, all_fields}
 use Rattle.expr_check.proofs.WalkLemmas.{order_of-parts, fields_of-parts, inputs_more}
@@ -21,7 +22,10 @@ open_expr-open_inputs-requires t c =
       rw (← c.decreases) (omega arith),
       (
         well_inputs whole c.requires.planned,
-        (faultless_inputs whole c.requires.faultless, c.requires.whole),
+        (
+          faultless_inputs whole c.requires.faultless,
+          (answered_inputs whole c.requires.answered, c.requires.whole),
+        ),
       ),
     )
 
@@ -36,7 +40,11 @@ open_inputs-open_expr-requires t c =
         (
           (faultless_more inputs c.loop-k.k (expr_tree c.input.result.now) lt
               (c.input.ensures.value _) c.loop-k.invariant.faultless).0,
-          c.requires.whole,
+          (
+            (answered_more inputs c.loop-k.k (expr_tree c.input.result.now) lt
+                (c.input.ensures.value _) c.loop-k.invariant.answered).0,
+            c.requires.whole,
+          ),
         ),
       ),
     )
@@ -55,6 +63,9 @@ open_inputs-loop-k-preserved t c =
       faultless =
           (faultless_more inputs c.loop-k.k e lt (c.input.ensures.value _)
           c.loop-k.invariant.faultless).1;
+      answered =
+          (answered_more inputs c.loop-k.k e lt (c.input.ensures.value _)
+          c.loop-k.invariant.answered).1;
       lists =
           ap (λ (flows : List Flow). rests_of flows ++ lists_of docs rest)
           c.in_ok-push.ensures.items
@@ -77,6 +88,7 @@ open_expr-open_over-requires-clause-sorted t c =
     let docs : Collections = λ n. documents_of n c.args.cut.now in
     (ready_found docs (expr_tree c.args.expr.now) c.as_slice.result.now
     (rests_of c.in_ok-streams.field-0.streams.items) c.requires.planned c.requires.faultless
+    c.requires.answered
     (c.as_slice.ensures.value ∙ c.in_ok-streams.ensures.orders) c.in_ok-streams.ensures.lists).sorted
 
 pub open_expr-open_over-requires-clause-faultless : goal.open_expr-open_over-requires-clause-faultless
@@ -84,13 +96,19 @@ open_expr-open_over-requires-clause-faultless t c =
     let docs : Collections = λ n. documents_of n c.args.cut.now in
     (ready_found docs (expr_tree c.args.expr.now) c.as_slice.result.now
     (rests_of c.in_ok-streams.field-0.streams.items) c.requires.planned c.requires.faultless
+    c.requires.answered
     (c.as_slice.ensures.value ∙ c.in_ok-streams.ensures.orders) c.in_ok-streams.ensures.lists).faultless
+
+pub open_expr-open_over-requires-clause-answered : goal.open_expr-open_over-requires-clause-answered
+open_expr-open_over-requires-clause-answered t c =
+    answered_here (expr_tree c.args.expr.now) c.requires.answered
 
 pub open_expr-open_over-requires-clause-in_order : goal.open_expr-open_over-requires-clause-in_order
 open_expr-open_over-requires-clause-in_order t c =
     let docs : Collections = λ n. documents_of n c.args.cut.now in
     (ready_found docs (expr_tree c.args.expr.now) c.as_slice.result.now
     (rests_of c.in_ok-streams.field-0.streams.items) c.requires.planned c.requires.faultless
+    c.requires.answered
     (c.as_slice.ensures.value ∙ c.in_ok-streams.ensures.orders) c.in_ok-streams.ensures.lists).in_order
 
 pub open_expr-open_over-requires-clause-width : goal.open_expr-open_over-requires-clause-width

@@ -1,10 +1,11 @@
-use Rattle.std.proofs.Common.{◌≡◌, ◌+◌, ◌*◌, ◌++◌, true, None, drop}
+use Rattle.std.proofs.Common.{◌≡◌, ◌+◌, ◌*◌, ◌++◌, None, drop}
 use Rattle.expr_types.specs.ExprTree.{inputs_in, inputs_of}
 use Rattle.expr_types.specs.Heights.{height}
 use Rattle.expr_types.specs.ExprTree.{expr_tree}
 use Rattle.expr_types.specs.Lists.{lists_of}
+use Rattle.expr_types.specs.Plain.{not_yet_in}
 use Rattle.expr_types.specs.Planned.{AreAllWell}
-use Rattle.expr_check.specs.Walk.{orders_of, all_fields, faults_where}
+use Rattle.expr_check.specs.Walk.{orders_of, all_fields, own_faults}
 use Rattle.source_streams.specs.Cuts.{documents_of}
 use Rattle.stream_engine.specs.Flows.{rests_of}
 use Rattle.stream_engine.proofs.opening.+opening.Given as goal
@@ -14,8 +15,8 @@ use Rattle.stream_engine.proofs.opening.+opening.Given as goal
 abbrev pub invariant-open_inputs-loop-k : goal.invariant-open_inputs-loop-k
 invariant-open_inputs-loop-k l = record {
   planned : AreAllWell (inputs_of (drop l.k (inputs_in (expr_tree l.expr))));
-  faultless :
-      faults_where (λ name. true) (inputs_of (drop l.k (inputs_in (expr_tree l.expr)))) ≡ None;
+  faultless : own_faults (inputs_of (drop l.k (inputs_in (expr_tree l.expr)))) ≡ None;
+  answered : not_yet_in (inputs_of (drop l.k (inputs_in (expr_tree l.expr)))) ≡ None;
   lists :
       rests_of l.streams.items
       ++ lists_of (λ c. documents_of c l.cut)

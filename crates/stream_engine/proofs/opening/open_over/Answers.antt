@@ -1,9 +1,7 @@
-use Rattle.std.proofs.Common.{◌≡◌, ℕ, [], ◌∷◌, ◌∙◌, ap, sym, subst, length, map, true, None, codes}
+use Rattle.std.proofs.Common.{◌≡◌, ℕ, [], ◌∷◌, ◌∙◌, refl, ap, sym, subst, length, map, codes}
 use Rattle.expr_types.specs.ExprTree.{ExprTree, node, merge, reduce, rollup, inputs_of, inputs_in}
 use Rattle.expr_types.specs.ExprTree.{operator_in, inner_join, left_outer_join, intersect}
 use Rattle.expr_types.specs.ExprTree.{complement, hash_join, outer_hash_join}
-use Rattle.expr_check.specs.Rules.{fault_at}
-use Rattle.expr_check.proofs.JoinLemmas.{joinable}
 use Rattle.expr_types.specs.ExprTree.{expr_tree, expr_step}
 use Rattle.expr_types.specs.Rules.{Collections, given, AreAsNeeded}
 use Rattle.expr_types.specs.Orders.{IsSortedOver}
@@ -12,7 +10,7 @@ use Rattle.expr_types.specs.declared.expr.Expr.TheFolds.{fold-roll-Expr}
 use Rattle.expr_types.specs.declared.expr.Expr.TheOpen.{Expr-F}
 use Rattle.source_streams.specs.Cuts.{documents_of}
 use Rattle.stream_engine.specs.Flows.{Flow, rests_of}
-use Rattle.stream_engine.proofs.Openings.{first_sorted, at_lists}
+use Rattle.stream_engine.proofs.Openings.{first_sorted, at_lists, two_joinable}
 use Rattle.stream_engine.proofs.opening.open_over.Goals as goal
 
 pub merge-requires : goal.merge-requires
@@ -66,13 +64,11 @@ join-requires c =
     ≡ node (inner_join on) (inputs_of (expr_tree left.value ∷ expr_tree right.value ∷ [])) =
     rw c.in-InnerJoin.is (ap expr_tree (sym (expr.rolls-InnerJoin left right on))
     ∙ fold-roll-Expr ExprTree expr_step (Expr-F.InnerJoin left right on)) in
-    record {
-      two = c.requires.width ∙ ap (λ (t : ExprTree). length (inputs_in t)) whole;
-      sorted =
-          joinable (codes "innerJoin") on c.args.orders.now (rests_of c.args.inputs.items)
-          (sym (ap (λ (t : ExprTree). fault_at (λ name. true) (operator_in t) c.args.orders.now) whole)
-          ∙ c.requires.faultless) c.requires.in_order;
-    }
+    let two =
+    two_joinable (codes "innerJoin") on (inner_join on) (λ orders. refl) (expr_tree c.args.expr.now)
+    (expr_tree left.value) (expr_tree right.value) whole c.args.orders.now c.args.inputs.items
+    c.requires.width c.requires.faultless c.requires.in_order in
+    record { two = two.0; sorted = two.1 }
 
 pub join-requires-in-LeftOuterJoin : goal.join-requires-in-LeftOuterJoin
 join-requires-in-LeftOuterJoin c =
@@ -83,13 +79,11 @@ join-requires-in-LeftOuterJoin c =
     ≡ node (left_outer_join on) (inputs_of (expr_tree left.value ∷ expr_tree right.value ∷ [])) =
     rw c.in-LeftOuterJoin.is (ap expr_tree (sym (expr.rolls-LeftOuterJoin left right on))
     ∙ fold-roll-Expr ExprTree expr_step (Expr-F.LeftOuterJoin left right on)) in
-    record {
-      two = c.requires.width ∙ ap (λ (t : ExprTree). length (inputs_in t)) whole;
-      sorted =
-          joinable (codes "leftOuterJoin") on c.args.orders.now (rests_of c.args.inputs.items)
-          (sym (ap (λ (t : ExprTree). fault_at (λ name. true) (operator_in t) c.args.orders.now) whole)
-          ∙ c.requires.faultless) c.requires.in_order;
-    }
+    let two =
+    two_joinable (codes "leftOuterJoin") on (left_outer_join on) (λ orders. refl) (expr_tree c.args.expr.now)
+    (expr_tree left.value) (expr_tree right.value) whole c.args.orders.now c.args.inputs.items
+    c.requires.width c.requires.faultless c.requires.in_order in
+    record { two = two.0; sorted = two.1 }
 
 pub exist-requires : goal.exist-requires
 exist-requires c =
@@ -100,13 +94,11 @@ exist-requires c =
     ≡ node (intersect on) (inputs_of (expr_tree left.value ∷ expr_tree right.value ∷ [])) =
     rw c.in-Intersect.is (ap expr_tree (sym (expr.rolls-Intersect left right on))
     ∙ fold-roll-Expr ExprTree expr_step (Expr-F.Intersect left right on)) in
-    record {
-      two = c.requires.width ∙ ap (λ (t : ExprTree). length (inputs_in t)) whole;
-      sorted =
-          joinable (codes "intersect") on c.args.orders.now (rests_of c.args.inputs.items)
-          (sym (ap (λ (t : ExprTree). fault_at (λ name. true) (operator_in t) c.args.orders.now) whole)
-          ∙ c.requires.faultless) c.requires.in_order;
-    }
+    let two =
+    two_joinable (codes "intersect") on (intersect on) (λ orders. refl) (expr_tree c.args.expr.now)
+    (expr_tree left.value) (expr_tree right.value) whole c.args.orders.now c.args.inputs.items
+    c.requires.width c.requires.faultless c.requires.in_order in
+    record { two = two.0; sorted = two.1 }
 
 pub exist-requires-in-Complement : goal.exist-requires-in-Complement
 exist-requires-in-Complement c =
@@ -117,13 +109,11 @@ exist-requires-in-Complement c =
     ≡ node (complement on) (inputs_of (expr_tree left.value ∷ expr_tree right.value ∷ [])) =
     rw c.in-Complement.is (ap expr_tree (sym (expr.rolls-Complement left right on))
     ∙ fold-roll-Expr ExprTree expr_step (Expr-F.Complement left right on)) in
-    record {
-      two = c.requires.width ∙ ap (λ (t : ExprTree). length (inputs_in t)) whole;
-      sorted =
-          joinable (codes "complement") on c.args.orders.now (rests_of c.args.inputs.items)
-          (sym (ap (λ (t : ExprTree). fault_at (λ name. true) (operator_in t) c.args.orders.now) whole)
-          ∙ c.requires.faultless) c.requires.in_order;
-    }
+    let two =
+    two_joinable (codes "complement") on (complement on) (λ orders. refl) (expr_tree c.args.expr.now)
+    (expr_tree left.value) (expr_tree right.value) whole c.args.orders.now c.args.inputs.items
+    c.requires.width c.requires.faultless c.requires.in_order in
+    record { two = two.0; sorted = two.1 }
 
 pub hash_join-requires : goal.hash_join-requires
 hash_join-requires c =
