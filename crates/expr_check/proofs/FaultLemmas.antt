@@ -1,4 +1,5 @@
--- An expression without a fault: its operators have none, and its collections are there.
+-- An expression without a fault: its operators have none, its collections are there, and with plain
+-- roots it only reads.
 use Rattle.std.proofs.Common.{◌≡◌, List, [], ◌∷◌, ◌++◌, Bool, true, false, ◌&&◌, Option, Some, None}
 use Rattle.std.proofs.Common.{if◌then◌else◌, refl}
 use Rattle.std.specs.Option.{option_or}
@@ -10,20 +11,21 @@ use Rattle.expr_types.specs.ExprTree.{merge, reduce, rollup, inner_join, left_ou
 use Rattle.expr_types.specs.ExprTree.{complement, hash_join, outer_hash_join, in_parallel, topic}
 use Rattle.expr_types.specs.ExprTree.{update, commit, daemon}
 use Rattle.expr_types.specs.ExprTree.{ExprTree, node, ExprTrees, no_exprs, an_expr}
-use Rattle.expr_check.specs.Walk.{orders_of}
+use Rattle.expr_types.specs.Names.{function_name}
+use Rattle.expr_types.specs.Plain.{is_plain, are_plain}
+use Rattle.expr_types.specs.Rules.{rule_of}
 use Rattle.expr_check.specs.Needs.{meets_sort, meets_names}
-use Rattle.expr_check.specs.Faults.{field_outside, field_fault, order_fault}
-use Rattle.expr_check.specs.Faults.{names_fault, sort_fault}
-use Rattle.expr_check.specs.Rules.{fault_at}
-use Rattle.expr_check.specs.Walk.{fault_where, faults_where}
-use Rattle.expr_check.specs.Walk.{own_fault}
-use Rattle.expr_check.specs.Faults.{names_text, sort_text}
-use Rattle.expr_check.specs.Rules.{named_by}
+use Rattle.expr_check.specs.Faults.{field_outside, field_fault, order_fault, names_fault, sort_fault}
+use Rattle.expr_check.specs.Faults.{names_text, sort_text, place_fault, first_unknown, unknown_fault}
+use Rattle.expr_check.specs.Rules.{named_by, stands, place_in}
+use Rattle.expr_check.specs.Walk.{own_at, fault_at, fault_where, faults_where, own_fault, own_faults}
 use Rattle.expr_check.specs.Walk.{named_in, all_named}
 use Rattle.expr_check.proofs.NeedLemmas.{and_first, and_second}
 use Rattle.expr_check.specs.declared.order.Order.{Order}
 use Rattle.expr_check.specs.declared.fault.CheckFault.{CheckFault}
-use Rattle.expr_check.specs.declared.fault.CheckFault.TheVariants.{UnknownCollection}
+use Rattle.expr_check.specs.declared.roots.Place.{Place}
+use Rattle.expr_check.specs.declared.roots.Roots.{Roots}
+use Rattle.expr_check.specs.declared.roots.Roots.TheVariants.{Plain}
 
 -- neither of two is there
 pub none_first : {T : Type 0} (a b : Option T) → option_or a b ≡ None → a ≡ None
@@ -77,60 +79,37 @@ fields_met fl [] e = refl
 fields_met fl (term ∷ terms) e =
     fields_met_by fl term terms (is_named term.field fl) (fields_met fl terms) e
 
--- a search without a fault has none where its collection is there
-search_own : (collection : ByteList) (fields : Option CheckFault) (known : Bool)
-    → (if known then fields else Some (UnknownCollection collection)) ≡ None → fields ≡ None
-search_own collection fields true e = e
-search_own collection fields false e = absurd (cc)
-
--- an operator without a fault has none where all collections are there
-at_own : (is_there : ByteList → Bool) (op : Operator) (orders : List Order)
-    → fault_at is_there op orders ≡ None → fault_at (λ name. true) op orders ≡ None
-at_own is_there (search p) orders e =
-    search_own p.collection (field_fault (field_outside p.sort p.fl)) (is_there p.collection) e
-at_own is_there (tuple fields) orders e = e
-at_own is_there (select items) orders e = e
-at_own is_there (having condition) orders e = e
-at_own is_there (sort by) orders e = e
-at_own is_there (top n by) orders e = e
-at_own is_there (unique over) orders e = e
-at_own is_there (merge on) orders e = e
-at_own is_there (reduce by op) orders e = e
-at_own is_there (rollup over metrics) orders e = e
-at_own is_there (inner_join on) orders e = e
-at_own is_there (left_outer_join on) orders e = e
-at_own is_there (intersect on) orders e = e
-at_own is_there (complement on) orders e = e
-at_own is_there (hash_join on) orders e = e
-at_own is_there (outer_hash_join on) orders e = e
-at_own is_there (in_parallel collection workers by) orders e = e
-at_own is_there (topic p) orders e = e
-at_own is_there (update dest size) orders e = e
-at_own is_there (commit dest size) orders e = e
-at_own is_there (daemon id interval terminate) orders e = e
+-- an operator without a fault at its place has none over its inputs
+own_met : (roots : Roots) (place : Place) (is_there : ByteList → Bool) (op : Operator)
+    (inputs : ExprTrees) → fault_at roots place is_there op inputs ≡ None
+    → own_at op inputs ≡ None
+own_met roots place is_there op inputs e =
+    let unknown = unknown_fault (first_unknown is_there (named_by op)) in
+    none_second unknown (own_at op inputs)
+    (none_second (place_fault (function_name op) (stands roots place op))
+    (option_or unknown (own_at op inputs)) e)
 
 mutual
   -- so has an expression
-  pub fault_where-own : (is_there : ByteList → Bool) (t : ExprTree)
-      → fault_where is_there t ≡ None → own_fault t ≡ None
-  fault_where-own is_there (node op inputs) e =
-      none_both (fault_at (λ name. true) op (orders_of inputs))
-      (faults_where (λ name. true) inputs)
-      (at_own is_there op (orders_of inputs)
-      (none_first (fault_at is_there op (orders_of inputs)) (faults_where is_there inputs) e))
-      (faults_where-own is_there inputs
-      (none_second (fault_at is_there op (orders_of inputs)) (faults_where is_there inputs) e))
+  pub fault_where-own : (roots : Roots) (place : Place) (is_there : ByteList → Bool) (t : ExprTree)
+      → fault_where roots place is_there t ≡ None → own_fault t ≡ None
+  fault_where-own roots place is_there (node op inputs) e =
+      let here = fault_at roots place is_there op inputs in
+      let below = faults_where roots (place_in op place) is_there inputs in
+      none_both (own_at op inputs) (own_faults inputs)
+      (own_met roots place is_there op inputs (none_first here below e))
+      (faults_where-own roots (place_in op place) is_there inputs (none_second here below e))
 
   -- and so have inputs
-  pub faults_where-own : (is_there : ByteList → Bool) (ts : ExprTrees)
-      → faults_where is_there ts ≡ None → faults_where (λ name. true) ts ≡ None
-  faults_where-own is_there no_exprs e = refl
-  faults_where-own is_there (an_expr t ts) e =
-      none_both (own_fault t) (faults_where (λ name. true) ts)
-      (fault_where-own is_there t
-      (none_first (fault_where is_there t) (faults_where is_there ts) e))
-      (faults_where-own is_there ts
-      (none_second (fault_where is_there t) (faults_where is_there ts) e))
+  pub faults_where-own : (roots : Roots) (place : Place) (is_there : ByteList → Bool)
+      (ts : ExprTrees) → faults_where roots place is_there ts ≡ None → own_faults ts ≡ None
+  faults_where-own roots place is_there no_exprs e = refl
+  faults_where-own roots place is_there (an_expr t ts) e =
+      let here = fault_where roots place is_there t in
+      let rest = faults_where roots place is_there ts in
+      none_both (own_fault t) (own_faults ts)
+      (fault_where-own roots place is_there t (none_first here rest e))
+      (faults_where-own roots place is_there ts (none_second here rest e))
 
 -- a test of two lists is that of both
 all-append : {X : Type 0} (p : X → Bool) (xs ys : List X) → list_all p xs ≡ true
@@ -140,57 +119,107 @@ all-append p (x ∷ xs) ys e f =
     both (p x) (list_all p (xs ++ ys)) (and_first (p x) (list_all p xs) e)
     (all-append p xs ys (and_second (p x) (list_all p xs) e) f)
 
--- a search without a fault has its collection
-search_there : (collection : ByteList) (fields : Option CheckFault) (known : Bool)
-    → (if known then fields else Some (UnknownCollection collection)) ≡ None
-    → (known && true) ≡ true
-search_there collection fields true e = refl
-search_there collection fields false e = absurd (cc)
+-- where one of several names is there or not, none is unknown only where it is there
+known_by : (is_there : ByteList → Bool) (name : ByteList) (names : List ByteList) (known : Bool)
+    → (unknown_fault (first_unknown is_there names) ≡ None → list_all is_there names ≡ true)
+    → unknown_fault (if known then first_unknown is_there names else Some name) ≡ None
+    → (known && list_all is_there names) ≡ true
+known_by is_there name names true h e = h e
+known_by is_there name names false h e = absurd (cc)
+
+-- where none of the names is unknown all are there
+all_known : (is_there : ByteList → Bool) (names : List ByteList)
+    → unknown_fault (first_unknown is_there names) ≡ None → list_all is_there names ≡ true
+all_known is_there [] e = refl
+all_known is_there (name ∷ names) e =
+    known_by is_there name names (is_there name) (all_known is_there names) e
 
 -- an operator without a fault has the collections that it names
-at_there : (is_there : ByteList → Bool) (op : Operator) (orders : List Order)
-    → fault_at is_there op orders ≡ None → list_all is_there (named_by op) ≡ true
-at_there is_there (search p) orders e =
-    search_there p.collection (field_fault (field_outside p.sort p.fl)) (is_there p.collection) e
-at_there is_there (tuple fields) orders e = refl
-at_there is_there (select items) orders e = refl
-at_there is_there (having condition) orders e = refl
-at_there is_there (sort by) orders e = refl
-at_there is_there (top n by) orders e = refl
-at_there is_there (unique over) orders e = refl
-at_there is_there (merge on) orders e = refl
-at_there is_there (reduce by op) orders e = refl
-at_there is_there (rollup over metrics) orders e = refl
-at_there is_there (inner_join on) orders e = refl
-at_there is_there (left_outer_join on) orders e = refl
-at_there is_there (intersect on) orders e = refl
-at_there is_there (complement on) orders e = refl
-at_there is_there (hash_join on) orders e = refl
-at_there is_there (outer_hash_join on) orders e = refl
-at_there is_there (in_parallel collection workers by) orders e = refl
-at_there is_there (topic p) orders e = refl
-at_there is_there (update dest size) orders e = refl
-at_there is_there (commit dest size) orders e = refl
-at_there is_there (daemon id interval terminate) orders e = refl
+at_there : (roots : Roots) (place : Place) (is_there : ByteList → Bool) (op : Operator)
+    (inputs : ExprTrees) → fault_at roots place is_there op inputs ≡ None
+    → list_all is_there (named_by op) ≡ true
+at_there roots place is_there op inputs e =
+    let unknown = unknown_fault (first_unknown is_there (named_by op)) in
+    all_known is_there (named_by op)
+    (none_first unknown (own_at op inputs)
+    (none_second (place_fault (function_name op) (stands roots place op))
+    (option_or unknown (own_at op inputs)) e))
 
 mutual
   -- so has an expression
-  pub fault_where-there : (is_there : ByteList → Bool) (t : ExprTree)
-      → fault_where is_there t ≡ None → list_all is_there (named_in t) ≡ true
-  fault_where-there is_there (node op inputs) e =
+  pub fault_where-there : (roots : Roots) (place : Place) (is_there : ByteList → Bool)
+      (t : ExprTree) → fault_where roots place is_there t ≡ None
+      → list_all is_there (named_in t) ≡ true
+  fault_where-there roots place is_there (node op inputs) e =
+      let here = fault_at roots place is_there op inputs in
+      let below = faults_where roots (place_in op place) is_there inputs in
       all-append is_there (named_by op) (all_named inputs)
-      (at_there is_there op (orders_of inputs)
-      (none_first (fault_at is_there op (orders_of inputs)) (faults_where is_there inputs) e))
-      (faults_where-there is_there inputs
-      (none_second (fault_at is_there op (orders_of inputs)) (faults_where is_there inputs) e))
+      (at_there roots place is_there op inputs (none_first here below e))
+      (faults_where-there roots (place_in op place) is_there inputs (none_second here below e))
 
   -- and so have inputs
-  pub faults_where-there : (is_there : ByteList → Bool) (ts : ExprTrees)
-      → faults_where is_there ts ≡ None → list_all is_there (all_named ts) ≡ true
-  faults_where-there is_there no_exprs e = refl
-  faults_where-there is_there (an_expr t ts) e =
+  pub faults_where-there : (roots : Roots) (place : Place) (is_there : ByteList → Bool)
+      (ts : ExprTrees) → faults_where roots place is_there ts ≡ None
+      → list_all is_there (all_named ts) ≡ true
+  faults_where-there roots place is_there no_exprs e = refl
+  faults_where-there roots place is_there (an_expr t ts) e =
+      let here = fault_where roots place is_there t in
+      let rest = faults_where roots place is_there ts in
       all-append is_there (named_in t) (all_named ts)
-      (fault_where-there is_there t
-      (none_first (fault_where is_there t) (faults_where is_there ts) e))
-      (faults_where-there is_there ts
-      (none_second (fault_where is_there t) (faults_where is_there ts) e))
+      (fault_where-there roots place is_there t (none_first here rest e))
+      (faults_where-there roots place is_there ts (none_second here rest e))
+
+-- a function that may stand at its place has no fault there
+stands_by : (function : ByteList) (is : Bool) → place_fault function is ≡ None → is ≡ true
+stands_by function true e = refl
+stands_by function false e = absurd (cc)
+
+-- what may stand with plain roots only reads
+plain_stands : (place : Place) (op : Operator) → stands Plain place op ≡ true
+    → (rule_of op).is_plain ≡ true
+plain_stands place (search p) e = refl
+plain_stands place (tuple fields) e = refl
+plain_stands place (select items) e = refl
+plain_stands place (having condition) e = refl
+plain_stands place (sort by) e = refl
+plain_stands place (top n by) e = refl
+plain_stands place (unique over) e = refl
+plain_stands place (merge on) e = refl
+plain_stands place (reduce by op) e = refl
+plain_stands place (rollup over metrics) e = refl
+plain_stands place (inner_join on) e = refl
+plain_stands place (left_outer_join on) e = refl
+plain_stands place (intersect on) e = refl
+plain_stands place (complement on) e = refl
+plain_stands place (hash_join on) e = refl
+plain_stands place (outer_hash_join on) e = refl
+plain_stands place (in_parallel collection workers by) e = refl
+plain_stands place (topic p) e = absurd (cc)
+plain_stands place (update dest size) e = absurd (cc)
+plain_stands place (commit dest size) e = absurd (cc)
+plain_stands place (daemon id interval terminate) e = absurd (cc)
+
+mutual
+  -- so what has no fault with plain roots only reads
+  pub fault_where-plain : (place : Place) (is_there : ByteList → Bool) (t : ExprTree)
+      → fault_where Plain place is_there t ≡ None → is_plain t ≡ true
+  fault_where-plain place is_there (node op inputs) e =
+      let here = fault_at Plain place is_there op inputs in
+      let below = faults_where Plain (place_in op place) is_there inputs in
+      let unknown = unknown_fault (first_unknown is_there (named_by op)) in
+      both (rule_of op).is_plain (are_plain inputs)
+      (plain_stands place op
+      (stands_by (function_name op) (stands Plain place op)
+      (none_first (place_fault (function_name op) (stands Plain place op))
+      (option_or unknown (own_at op inputs)) (none_first here below e))))
+      (faults_where-plain (place_in op place) is_there inputs (none_second here below e))
+
+  -- and so do inputs
+  pub faults_where-plain : (place : Place) (is_there : ByteList → Bool) (ts : ExprTrees)
+      → faults_where Plain place is_there ts ≡ None → are_plain ts ≡ true
+  faults_where-plain place is_there no_exprs e = refl
+  faults_where-plain place is_there (an_expr t ts) e =
+      let here = fault_where Plain place is_there t in
+      let rest = faults_where Plain place is_there ts in
+      both (is_plain t) (are_plain ts) (fault_where-plain place is_there t (none_first here rest e))
+      (faults_where-plain place is_there ts (none_second here rest e))

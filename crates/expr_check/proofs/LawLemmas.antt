@@ -1,5 +1,5 @@
--- A checked expression's inputs are in the order that their functions need, and what it gives is in
--- its order.
+-- The inputs of an expression that only reads and has no fault are in the order that their functions
+-- need, and what it gives is in its order.
 use Rattle.std.proofs.Common.{◌≡◌, ℕ, ◌≤◌, ◌==◌, List, [], ◌∷◌, ◌++◌, true, false, not, ◌&&◌}
 use Rattle.std.proofs.Common.{Option, Some, None, length, map, filter, refl, sym, ◌∙◌, ap}
 use Rattle.std.proofs.Common.{arith, codes, subst}
@@ -29,7 +29,8 @@ use Rattle.expr_types.specs.Lists.{list_of, lists_of, AreSorted}
 use Rattle.expr_types.specs.Lists.{AreAllSorted}
 use Rattle.expr_types.specs.Orders.{IsSortedOver}
 use Rattle.expr_types.specs.Limits.{is_between, count_limit}
-use Rattle.expr_types.specs.Rules.{is_well}
+use Rattle.expr_types.specs.Rules.{is_well, rule_of}
+use Rattle.expr_types.specs.Plain.{is_plain, are_plain}
 use Rattle.expr_types.specs.Planned.{AreWell, AreAllWell}
 use Rattle.expr_types.specs.Rows.{selected, select_list}
 use Rattle.expr_types.specs.Sources.{cut_to, first_rows, then_by_id, found_rows, search_list}
@@ -39,12 +40,11 @@ use Rattle.expr_types.specs.declared.item.Metric.{Metric}
 use Rattle.expr_types.proofs.OrderLemmas.{ascends_by_first}
 use Rattle.expr_check.specs.Orders.{IsInOrder, AreInOrder, kept_order, kept_terms, first_terms}
 use Rattle.expr_check.specs.Orders.{directions_of, joined_order}
-use Rattle.expr_check.specs.Rules.{order_given}
-use Rattle.expr_check.specs.Walk.{order_of, orders_of, all_fields}
+use Rattle.expr_check.specs.Rules.{order_given, need_at, itself_at}
+use Rattle.expr_check.specs.Walk.{order_of, orders_of, all_fields, followed_in, own_at}
+use Rattle.expr_check.specs.Walk.{own_fault, own_faults}
 use Rattle.expr_check.specs.Needs.{names_first, meets_sort, meets_names}
 use Rattle.expr_check.specs.Faults.{names_fault, sort_fault, first_fault}
-use Rattle.expr_check.specs.Rules.{fault_at}
-use Rattle.expr_check.specs.Walk.{faults_where, own_fault}
 use Rattle.expr_check.proofs.FaultLemmas.{none_first, none_second, names_met, sort_met, fields_met}
 use Rattle.expr_check.specs.declared.order.Order.{Order}
 use Rattle.expr_check.specs.declared.order.Order.TheVariants.{Any, By}
@@ -253,13 +253,29 @@ all_ascend on [] (l ∷ ls) e a = absurd a
 all_ascend on (o ∷ os) [] e a = absurd a
 all_ascend on (o ∷ os) (l ∷ ls) e a = (
   sort_ascends on o l
-      (sort_met (codes "merge") on o (none_first (sort_fault (codes "merge") on o) (first_fault (sort_fault (codes "merge") on) os) e)) a.0,
-  all_ascend on os ls (none_second (sort_fault (codes "merge") on o) (first_fault (sort_fault (codes "merge") on) os) e) a.1,
+      (sort_met (codes "merge") on o
+      (none_first (sort_fault (codes "merge") on o) (first_fault (sort_fault (codes "merge") on) os)
+      e)) a.0,
+  all_ascend on os ls
+      (none_second (sort_fault (codes "merge") on o) (first_fault (sort_fault (codes "merge") on) os)
+      e) a.1,
 )
+
+-- the first list ascends by a sort that is the first of its order
+first_ascends : (function : ByteList) (on : List SortTerm) (orders : List Order)
+    (lists : List (List Doc)) → first_fault (sort_fault function on) orders ≡ None
+    → AreInOrder orders lists → IsAscending (less on) (first_or [] lists)
+first_ascends function on [] [] e a = tt
+first_ascends function on [] (l ∷ ls) e a = absurd a
+first_ascends function on (o ∷ os) [] e a = absurd a
+first_ascends function on (o ∷ os) (l ∷ ls) e a =
+    sort_ascends on o l
+    (sort_met function on o
+    (none_first (sort_fault function on o) (first_fault (sort_fault function on) os) e)) a.0
 
 -- where an operator has no fault, the lists of its inputs are in the order that it needs
 pub needs_hold : (op : Operator) (n : ℕ) (orders : List Order) (lists : List (List Doc))
-    → is_well op n ≡ true → fault_at (λ name. true) op orders ≡ None → AreInOrder orders lists
+    → is_well op n ≡ true → need_at op orders ≡ None → AreInOrder orders lists
     → AreAsNeeded op lists
 needs_hold (search p) many orders lists k e a = tt
 needs_hold (tuple fields) many orders lists k e a = tt
@@ -284,11 +300,11 @@ needs_hold (complement on) many orders lists k e a =
     (directions_of orders, joinable (codes "complement") on orders lists e a)
 needs_hold (hash_join on) many orders lists k e a = tt
 needs_hold (outer_hash_join on) many orders lists k e a = tt
-needs_hold (in_parallel collection workers by) many orders lists k e a = absurd (cc)
-needs_hold (topic p) many orders lists k e a = absurd (cc)
-needs_hold (update dest size) many orders lists k e a = absurd (cc)
-needs_hold (commit dest size) many orders lists k e a = absurd (cc)
-needs_hold (daemon id interval terminate) many orders lists k e a = absurd (cc)
+needs_hold (in_parallel collection workers by) many orders lists k e a = tt
+needs_hold (topic p) many orders lists k e a = tt
+needs_hold (update dest size) many orders lists k e a = tt
+needs_hold (commit dest size) many orders lists k e a = tt
+needs_hold (daemon id interval terminate) many orders lists k e a = tt
 
 -- what an inner join gives is in the left order, as far as it stays
 inner_in_order : (on : List OnPair) (orders : List Order) (names : List (List ByteList))
@@ -310,57 +326,59 @@ outer_in_order on orders names lists a w =
     (first_or [] lists) (second_or [] lists) (first_in_order orders lists a)
     (second_within names lists w)
 
--- and what it gives is in its order
+-- and what it gives is in its order, where it only reads
 given_in_order : (docs : Collections) (op : Operator) (n : ℕ) (orders : List Order)
-    (names : List (List ByteList)) (lists : List (List Doc)) → is_well op n ≡ true
-    → fault_at (λ name. true) op orders ≡ None → AreInOrder orders lists → AreWithin names lists
+    (names : List (List ByteList)) (lists : List (List Doc)) → (rule_of op).is_plain ≡ true
+    → is_well op n ≡ true → need_at op orders ≡ None → AreInOrder orders lists
+    → AreWithin names lists
     → IsInOrder (order_given op orders names) (given docs op lists)
-given_in_order docs (search p) many orders names lists k e a w =
+given_in_order docs (search p) many orders names lists i k e a w =
     search_ascends p (docs p.collection) (fields_met p.fl p.sort e)
-given_in_order docs (tuple fields) many orders names lists k e a w = omega arith
-given_in_order docs (select items) many orders names lists k e a w =
+given_in_order docs (tuple fields) many orders names lists i k e a w = omega arith
+given_in_order docs (select items) many orders names lists i k e a w =
     select_in_order items (first_or Any orders) (first_or [] lists)
     (first_in_order orders lists a)
-given_in_order docs (having condition) many orders names lists k e a w =
+given_in_order docs (having condition) many orders names lists i k e a w =
     having_in_order condition (first_or Any orders) (first_or [] lists)
     (first_in_order orders lists a)
-given_in_order docs (sort by) many orders names lists k e a w = sorted_ascends by (first_or [] lists)
-given_in_order docs (top n by) many orders names lists k e a w =
+given_in_order docs (sort by) many orders names lists i k e a w = sorted_ascends by (first_or [] lists)
+given_in_order docs (top n by) many orders names lists i k e a w =
     ascends_take (less by) n (ins_sort (less by) (first_or [] lists))
     (sorted_ascends by (first_or [] lists))
-given_in_order docs (unique over) many orders names lists k e a w =
+given_in_order docs (unique over) many orders names lists i k e a w =
     unique_in_order over (first_or Any orders) (first_or [] lists)
     (first_in_order orders lists a)
-given_in_order docs (merge on) many orders names lists k e a w =
+given_in_order docs (merge on) many orders names lists i k e a w =
     sorted_ascends on (flat_map (λ l. l) lists)
-given_in_order docs (reduce by op) many orders names lists k e a w =
+given_in_order docs (reduce by op) many orders names lists i k e a w =
     reduce_in_order by op (first_or Any orders) (first_or [] lists)
     (is_false (is_named (codes "group") by)
     (and_second (many == 1 && is_between 1 count_limit op.n) (not (is_named (codes "group") by)) k))
     (first_meets (codes "reduce") by orders e) (first_in_order orders lists a)
-given_in_order docs (rollup over metrics) many orders names lists k e a w =
+given_in_order docs (rollup over metrics) many orders names lists i k e a w =
     rollup_in_order over metrics (first_or Any orders) (first_or [] lists)
     (and_second (many == 1) (list_all (λ m. not (is_named (metric_name m) over)) metrics) k)
     (first_meets (codes "rollup") over orders e) (first_in_order orders lists a)
-given_in_order docs (inner_join on) many orders names lists k e a w =
+given_in_order docs (inner_join on) many orders names lists i k e a w =
     inner_in_order on orders names lists a w
-given_in_order docs (left_outer_join on) many orders names lists k e a w =
+given_in_order docs (left_outer_join on) many orders names lists i k e a w =
     outer_in_order on orders names lists a w
-given_in_order docs (intersect on) many orders names lists k e a w =
+given_in_order docs (intersect on) many orders names lists i k e a w =
     existing_in_order true on (first_or Any orders) (first_or [] lists) (second_or [] lists)
     (first_in_order orders lists a)
-given_in_order docs (complement on) many orders names lists k e a w =
+given_in_order docs (complement on) many orders names lists i k e a w =
     existing_in_order false on (first_or Any orders) (first_or [] lists) (second_or [] lists)
     (first_in_order orders lists a)
-given_in_order docs (hash_join on) many orders names lists k e a w =
+given_in_order docs (hash_join on) many orders names lists i k e a w =
     inner_in_order on orders names lists a w
-given_in_order docs (outer_hash_join on) many orders names lists k e a w =
+given_in_order docs (outer_hash_join on) many orders names lists i k e a w =
     outer_in_order on orders names lists a w
-given_in_order docs (in_parallel collection workers by) many orders names lists k e a w = absurd (cc)
-given_in_order docs (topic p) many orders names lists k e a w = absurd (cc)
-given_in_order docs (update dest size) many orders names lists k e a w = absurd (cc)
-given_in_order docs (commit dest size) many orders names lists k e a w = absurd (cc)
-given_in_order docs (daemon id interval terminate) many orders names lists k e a w = absurd (cc)
+given_in_order docs (in_parallel collection workers by) many orders names lists i k e a w =
+    first_ascends (codes "parallel") by orders lists e a
+given_in_order docs (topic p) many orders names lists i k e a w = absurd (cc)
+given_in_order docs (update dest size) many orders names lists i k e a w = absurd (cc)
+given_in_order docs (commit dest size) many orders names lists i k e a w = absurd (cc)
+given_in_order docs (daemon id interval terminate) many orders names lists i k e a w = absurd (cc)
 
 -- both facts of an expression
 abbrev pub Holds : Collections → ExprTree → Type 0
@@ -371,28 +389,30 @@ abbrev pub HoldAll : Collections → ExprTrees → Type 0
 HoldAll docs ts = AreAllSorted docs ts × AreInOrder (orders_of ts) (lists_of docs ts)
 
 mutual
-  -- they hold of an expression that a plan gives and that has no fault
-  pub holds_of : (docs : Collections) (t : ExprTree) → AreWell t → own_fault t ≡ None
-      → Holds docs t
-  holds_of docs (node op inputs) w e =
+  -- they hold of an expression that only reads, that a plan gives and that has no fault
+  pub holds_of : (docs : Collections) (t : ExprTree) → is_plain t ≡ true → AreWell t
+      → own_fault t ≡ None → Holds docs t
+  holds_of docs (node op inputs) p w e =
       let many = length (expr_list inputs) in
-      let own =
-      none_first (fault_at (λ name. true) op (orders_of inputs)) (faults_where (λ name. true) inputs)
-      e in
-      let h = hold_all docs inputs w.1.1
-      (none_second (fault_at (λ name. true) op (orders_of inputs))
-      (faults_where (λ name. true) inputs) e) in (
-        (h.0, needs_hold op many (orders_of inputs) (lists_of docs inputs) w.0 own h.1),
-        given_in_order docs op many (orders_of inputs) (all_fields inputs) (lists_of docs inputs) w.0
-            own h.1 (all_within docs inputs),
+      let orders = orders_of inputs in
+      let need =
+      none_second (itself_at op (followed_in inputs)) (need_at op orders)
+      (none_first (own_at op inputs) (own_faults inputs) e) in
+      let h = hold_all docs inputs (and_second (rule_of op).is_plain (are_plain inputs) p) w.1.1
+      (none_second (own_at op inputs) (own_faults inputs) e) in (
+        (h.0, needs_hold op many orders (lists_of docs inputs) w.0 need h.1),
+        given_in_order docs op many orders (all_fields inputs) (lists_of docs inputs)
+            (and_first (rule_of op).is_plain (are_plain inputs) p) w.0 need h.1
+            (all_within docs inputs),
       )
 
   -- and of all inputs
-  pub hold_all : (docs : Collections) (ts : ExprTrees) → AreAllWell ts
-      → faults_where (λ name. true) ts ≡ None → HoldAll docs ts
-  hold_all docs no_exprs w e = (tt, tt)
-  hold_all docs (an_expr t ts) w e =
-      let h = holds_of docs t w.0 (none_first (own_fault t) (faults_where (λ name. true) ts) e) in
-      let hs = hold_all docs ts w.1
-      (none_second (own_fault t) (faults_where (λ name. true) ts) e) in
+  pub hold_all : (docs : Collections) (ts : ExprTrees) → are_plain ts ≡ true → AreAllWell ts
+      → own_faults ts ≡ None → HoldAll docs ts
+  hold_all docs no_exprs p w e = (tt, tt)
+  hold_all docs (an_expr t ts) p w e =
+      let h = holds_of docs t (and_first (is_plain t) (are_plain ts) p) w.0
+      (none_first (own_fault t) (own_faults ts) e) in
+      let hs = hold_all docs ts (and_second (is_plain t) (are_plain ts) p) w.1
+      (none_second (own_fault t) (own_faults ts) e) in
       ((h.0, hs.0), (h.1, hs.1))

@@ -1,6 +1,7 @@
 pub mod NeedLemmas
 pub mod TextLemmas
 pub mod WalkLemmas
+pub mod ReadLemmas
 pub mod FaultLemmas
 pub mod AscendLemmas
 pub mod AgreeLemmas

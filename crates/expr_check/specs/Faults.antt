@@ -1,7 +1,7 @@
 -- Why an expression may not be evaluated: the first fault of the walk, a call before its inputs,
 -- inputs from the left to the right (own).
 use Rattle.std.specs.Prelude.{◌++◌, Bool, true, false, List, [], ◌∷◌, Option, Some, None}
-use Rattle.std.specs.Prelude.{codes, if◌then◌else◌}
+use Rattle.std.specs.Prelude.{codes, bytes_eq, if◌then◌else◌}
 use Rattle.std.specs.List.{join_by}
 use Rattle.std.specs.Option.{option_or}
 use Rattle.tuple_values.specs.Document.{ByteList, is_named}
@@ -16,9 +16,10 @@ use Rattle.expr_check.specs.Needs.{meets_sort, meets_names}
 use Rattle.expr_check.specs.declared.order.Order.{Order}
 use Rattle.expr_check.specs.declared.order.Order.TheVariants.{Any, By}
 use Rattle.expr_check.specs.declared.fault.CheckFault.{CheckFault}
-use Rattle.expr_check.specs.declared.fault.CheckFault.TheVariants.{UnknownCollection}
-use Rattle.expr_check.specs.declared.fault.CheckFault.TheVariants.{SortFieldNotInFl}
-use Rattle.expr_check.specs.declared.fault.CheckFault.TheVariants.{NotSorted, OutOfMemory}
+use Rattle.expr_check.specs.declared.fault.CheckFault.TheVariants.{BadPlace, UnknownCollection}
+use Rattle.expr_check.specs.declared.fault.CheckFault.TheVariants.{UpdateOfItself}
+use Rattle.expr_check.specs.declared.fault.CheckFault.TheVariants.{SortFieldNotInFl, NotSorted}
+use Rattle.expr_check.specs.declared.fault.CheckFault.TheVariants.{NotPartitioned, OutOfMemory}
 
 -- the first field of a sort that isn't among the names
 abbrev pub field_outside : List SortTerm → List ByteList → Option ByteList
@@ -31,12 +32,27 @@ abbrev pub field_fault : Option ByteList → Option CheckFault
 field_fault None = None
 field_fault (Some field) = Some (SortFieldNotInFl field)
 
--- the first fault of a search: its collection isn't there, or a field of its sort isn't in `fl`
-abbrev pub search_fault : (ByteList → Bool) → ByteList → List SortTerm → List ByteList
-    → Option CheckFault
-search_fault is_there collection terms fl =
-    if is_there collection then field_fault (field_outside terms fl)
-    else Some (UnknownCollection collection)
+-- the fault of a function that may stand at its place, or not
+abbrev pub place_fault : ByteList → Bool → Option CheckFault
+place_fault function true = None
+place_fault function false = Some (BadPlace function)
+
+-- the first of the names that isn't there
+abbrev pub first_unknown : (ByteList → Bool) → List ByteList → Option ByteList
+first_unknown is_there [] = None
+first_unknown is_there (name ∷ names) =
+    if is_there name then first_unknown is_there names else Some name
+
+-- the fault of a collection that isn't there
+abbrev pub unknown_fault : Option ByteList → Option CheckFault
+unknown_fault None = None
+unknown_fault (Some name) = Some (UnknownCollection name)
+
+-- the fault of an update of this collection, where its input follows a collection as a topic
+abbrev pub itself_fault : ByteList → Option ByteList → Option CheckFault
+itself_fault dest None = None
+itself_fault dest (Some collection) =
+    if bytes_eq collection dest then Some (UpdateOfItself dest) else None
 
 -- a term as a text
 abbrev pub term_text : SortTerm → ByteList
@@ -96,8 +112,11 @@ first_fault fault (x ∷ xs) = option_or (fault x) (first_fault fault xs)
 
 -- what a reply says of a fault
 abbrev pub fault_text : CheckFault → ByteList
+fault_text (BadPlace function) = codes "BadPlace" ++ codes " " ++ function
 fault_text (UnknownCollection name) = codes "UnknownCollection" ++ codes " " ++ name
+fault_text (UpdateOfItself collection) = codes "UpdateOfItself" ++ codes " " ++ collection
 fault_text (SortFieldNotInFl field) = codes "SortFieldNotInFl" ++ codes " " ++ field
 fault_text (NotSorted function needed has) =
     codes "NotSorted " ++ function ++ codes " needs " ++ needed ++ codes " has " ++ has
+fault_text (NotPartitioned function) = codes "NotPartitioned" ++ codes " " ++ function
 fault_text OutOfMemory = codes "out of memory"

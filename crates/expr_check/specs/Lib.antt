@@ -2,6 +2,7 @@ pub mod Fields
 pub mod Orders
 pub mod Needs
 pub mod Faults
+pub mod Places
 pub mod Reads
 pub mod Rules
 pub mod Walk

@@ -1,15 +1,22 @@
 -- What is so of a whole expression: its order, its fields, its first fault, a call before its
 -- inputs and inputs from the left to the right, and its collections (own).
-use Rattle.std.specs.Prelude.{List, [], ◌∷◌, ◌++◌, Bool, true, Option, None}
+use Rattle.std.specs.Prelude.{List, [], ◌∷◌, ◌++◌, Bool, Option, None}
 use Rattle.std.specs.Option.{option_or}
 use Rattle.tuple_values.specs.Collections.{is_known}
 use Rattle.tuple_values.specs.Document.{ByteList}
 use Rattle.tuple_values.specs.declared.names.NameShards.{NameShards}
 use Rattle.sort_spec.specs.Texts.{once}
-use Rattle.expr_types.specs.ExprTree.{ExprTree, node, ExprTrees, no_exprs, an_expr}
-use Rattle.expr_check.specs.Rules.{order_given, fields_given, fault_at, read_by, named_by}
+use Rattle.expr_types.specs.ExprTree.{Operator, ExprTree, node, ExprTrees, no_exprs, an_expr}
+use Rattle.expr_types.specs.ExprTree.{operator_in}
+use Rattle.expr_types.specs.Names.{function_name}
+use Rattle.expr_check.specs.Faults.{place_fault, first_unknown, unknown_fault}
+use Rattle.expr_check.specs.Places.{at_root}
+use Rattle.expr_check.specs.Rules.{order_given, fields_given, need_at, itself_at, followed_by}
+use Rattle.expr_check.specs.Rules.{read_by, named_by, stands, place_in}
 use Rattle.expr_check.specs.declared.order.Order.{Order}
 use Rattle.expr_check.specs.declared.fault.CheckFault.{CheckFault}
+use Rattle.expr_check.specs.declared.roots.Place.{Place}
+use Rattle.expr_check.specs.declared.roots.Roots.{Roots}
 
 -- the fields of an expression
 abbrev mutual
@@ -31,27 +38,51 @@ abbrev mutual
   orders_of no_exprs = []
   orders_of (an_expr e exprs) = order_of e ∷ orders_of exprs
 
--- the first fault of an expression, where these collections are there
+-- the collection that the first input follows as a topic
+abbrev pub followed_in : ExprTrees → Option ByteList
+followed_in no_exprs = None
+followed_in (an_expr e exprs) = followed_by (operator_in e)
+
+-- the fault of an operator over these inputs, wherever it stands and whatever is there
+abbrev pub own_at : Operator → ExprTrees → Option CheckFault
+own_at op inputs =
+    option_or (itself_at op (followed_in inputs)) (need_at op (orders_of inputs))
+
+-- the fault of an operator over these inputs at a place, where these collections are there
+abbrev pub fault_at : Roots → Place → (ByteList → Bool) → Operator → ExprTrees
+    → Option CheckFault
+fault_at roots place is_there op inputs =
+    option_or (place_fault (function_name op) (stands roots place op))
+    (option_or (unknown_fault (first_unknown is_there (named_by op))) (own_at op inputs))
+
+-- the first fault of an expression at a place, where these collections are there
 abbrev mutual
-  pub fault_where : (ByteList → Bool) → ExprTree → Option CheckFault
-  fault_where is_there (node op inputs) =
-      option_or (fault_at is_there op (orders_of inputs)) (faults_where is_there inputs)
+  pub fault_where : Roots → Place → (ByteList → Bool) → ExprTree → Option CheckFault
+  fault_where roots place is_there (node op inputs) =
+      option_or (fault_at roots place is_there op inputs)
+      (faults_where roots (place_in op place) is_there inputs)
 
   -- the first fault of inputs
-  pub faults_where : (ByteList → Bool) → ExprTrees → Option CheckFault
-  faults_where is_there no_exprs = None
-  faults_where is_there (an_expr e exprs) =
-      option_or (fault_where is_there e) (faults_where is_there exprs)
+  pub faults_where : Roots → Place → (ByteList → Bool) → ExprTrees → Option CheckFault
+  faults_where roots place is_there no_exprs = None
+  faults_where roots place is_there (an_expr e exprs) =
+      option_or (fault_where roots place is_there e) (faults_where roots place is_there exprs)
 
 -- the first fault of an expression over collections of these names
-abbrev pub fault_of : List NameShards → ExprTree → Option CheckFault
-fault_of names t = fault_where (λ name. is_known name names) t
+abbrev pub fault_of : Roots → List NameShards → ExprTree → Option CheckFault
+fault_of roots names t = fault_where roots at_root (λ name. is_known name names) t
 
--- the first fault of an expression but that of a collection
-abbrev pub own_fault : ExprTree → Option CheckFault
-own_fault t = fault_where (λ name. true) t
+-- the first fault of an expression but those of a place or of a collection
+abbrev mutual
+  pub own_fault : ExprTree → Option CheckFault
+  own_fault (node op inputs) = option_or (own_at op inputs) (own_faults inputs)
 
--- the collections of the searches, a call before its inputs, inputs from the left to the right
+  -- the same of inputs
+  pub own_faults : ExprTrees → Option CheckFault
+  own_faults no_exprs = None
+  own_faults (an_expr e exprs) = option_or (own_fault e) (own_faults exprs)
+
+-- the collections that are read, a call before its inputs, inputs from the left to the right
 abbrev mutual
   pub searched_in : ExprTree → List ByteList
   searched_in (node op inputs) = read_by op ++ all_searched inputs

@@ -6,8 +6,7 @@ ghost use Rattle.expr_types.specs.Planned.{IsPlanned};
 ghost use Rattle.expr_types.proofs.PlannedLemmas.{IsPlanned-prop};
 ghost use Rattle.expr_check.specs.Walk.{order_of, fields_of, own_fault, collections_of};
 
-use crate::Order;
-use crate::reads::are_known;
+use crate::{Order, reads};
 use expr_types::Expr;
 use tuple_values::{FieldList, Names};
 
@@ -28,10 +27,12 @@ pub struct Checked {
 impl Checked {
     ghost use Rattle.expr_types.specs.Rules.{Collections};
     ghost use Rattle.expr_types.specs.Lists.{list_of, AreSorted};
+    ghost use Rattle.expr_types.specs.Plain.{IsPlain};
     ghost use Rattle.expr_check.specs.Fields.{HaveOnly};
     ghost use Rattle.expr_check.specs.Orders.{IsInOrder};
     ghost use Rattle.expr_check.specs.Reads.{are_known};
     ghost use Rattle.expr_check.specs.Views.{expr_of, tree_of};
+    ghost use Rattle.expr_check.specs.Walk.{named_in};
 
     // The expression with what was found of it.
     pub(crate) fn new(
@@ -60,11 +61,13 @@ impl Checked {
         ensures value { result.now ≡ expr_of self.now }
         ensures planned { IsPlanned (expr_tree result.now) }
 
-        // It has no fault but that a collection may be unknown.
+        // Its functions have no fault over their inputs.
         ensures faultless { own_fault (expr_tree result.now) ≡ None }
 
-        // Whatever the documents are, each input has the order that its function needs.
-        ensures sorted { (docs : Collections) → AreSorted docs (expr_tree result.now) }
+        // Where it only reads, each input has the order that its function needs, whatever the
+        // documents are.
+        ensures sorted { IsPlain (expr_tree result.now)
+            → (docs : Collections) → AreSorted docs (expr_tree result.now) }
     {
         &self.expr
     }
@@ -73,9 +76,9 @@ impl Checked {
     pub fn order(&self) -> &Order
         ensures value { result.now ≡ order_of (tree_of self.now) }
 
-        // Whatever the documents are, what the expression gives is in this order.
-        ensures ordered { (docs : Collections)
-            → IsInOrder result.now (list_of docs (tree_of self.now)) }
+        // Where the expression only reads, what it gives is in this order, whatever the documents are.
+        ensures ordered { IsPlain (tree_of self.now)
+            → (docs : Collections) → IsInOrder result.now (list_of docs (tree_of self.now)) }
     {
         &self.order
     }
@@ -98,10 +101,10 @@ impl Checked {
         &self.collections
     }
 
-    /// Whether each collection that the expression reads is there. Takes no memory.
+    /// Whether each collection that the expression names is there. Takes no memory.
     pub fn stands_on(&self, names: &Names) -> bool
-        ensures { result ≡ are_known (collections_of (tree_of self.now)) names.now }
+        ensures { result ≡ are_known (named_in (tree_of self.now)) names.now }
     {
-        are_known(&self.collections, names)
+        reads::stands_on(&self.expr, names)
     }
 }

@@ -10,10 +10,20 @@ use tuple_values::{Memory, Text};
 /// inputs from the left to the right.
 #[derive(Debug, Drop, Error)]
 pub enum CheckFault {
+    /// The function may not stand where it does.
+    #[error("BadPlace")]
+    BadPlace {
+        function: Text,
+    },
     /// There is no collection of this name.
     #[error("UnknownCollection")]
     UnknownCollection {
         name: Text,
+    },
+    /// The collection would be updated from a topic of itself.
+    #[error("UpdateOfItself")]
+    UpdateOfItself {
+        collection: Text,
     },
     /// A search's sort has this field, which isn't in `fl`.
     #[error("SortFieldNotInFl")]
@@ -26,6 +36,12 @@ pub enum CheckFault {
         function: Text,
         needed: Text,
         has: Text,
+    },
+    /// The function has no partition keys, and stands in a parallel; or it is a parallel whose sort
+    /// doesn't hold those of its input.
+    #[error("NotPartitioned")]
+    NotPartitioned {
+        function: Text,
     },
     /// An allocation was refused.
     #[error("out of memory")]
@@ -56,13 +72,18 @@ impl CheckFault {
         ensures { IfOk result (λ text. text ≡ fault_text self.now) }
     {
         match self {
+            CheckFault::BadPlace { function } => one_word(alloc, "BadPlace", function),
             CheckFault::UnknownCollection { name } => one_word(alloc, "UnknownCollection", name),
+            CheckFault::UpdateOfItself { collection } => {
+                one_word(alloc, "UpdateOfItself", collection)
+            }
             CheckFault::SortFieldNotInFl { field } => one_word(alloc, "SortFieldNotInFl", field),
             CheckFault::NotSorted {
                 function,
                 needed,
                 has,
             } => not_sorted(alloc, function, needed, has),
+            CheckFault::NotPartitioned { function } => one_word(alloc, "NotPartitioned", function),
             CheckFault::OutOfMemory => Text::of(alloc, "out of memory"),
         }
     }

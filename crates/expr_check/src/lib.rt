@@ -5,6 +5,7 @@
 mod checked;
 mod checking;
 mod fault;
+mod faulting;
 mod fields;
 mod joins;
 mod needs;
@@ -12,15 +13,18 @@ mod order;
 mod orders;
 mod places;
 mod reads;
+mod roots;
 mod rules;
+mod standing;
 #[cfg(test)]
 mod tests;
 mod texts;
 mod walk;
 
 pub use checked::Checked;
-pub use checking::{check, fields_hold, orders_hold};
+pub use checking::{check, fields_hold, orders_hold, plain_roots_hold};
 pub use fault::CheckFault;
 pub use joins::join_order;
 pub use order::Order;
+pub use roots::Roots;
 pub use rules::{fields_given, order_given};

@@ -1,16 +1,14 @@
-// Which orders a function needs of its inputs, and what a search needs.
+// Which orders a function needs of its inputs, and which fields a search.
 ghost use Rattle.std.specs.Prelude.{◌≡◌, IfOk, option_map};
-ghost use Rattle.tuple_values.specs.Collections.{is_known};
 ghost use Rattle.expr_check.specs.Needs.{meets_sort, meets_names, names_first};
-ghost use Rattle.expr_check.specs.Faults.{field_outside, search_fault};
+ghost use Rattle.expr_check.specs.Faults.{field_outside, field_fault};
 ghost use Rattle.expr_check.specs.Faults.{names_fault, sort_fault, first_fault};
 
-use crate::reads::is_known;
 use crate::texts::{has_text, names_text, sort_text};
 use crate::{CheckFault, Order};
 use sort_spec::{SortSpec, SortTerm};
 use std::alloc::Global;
-use tuple_values::{FieldList, Memory, Names, Text, TryCopy};
+use tuple_values::{FieldList, Memory, Text, TryCopy};
 
 // The first field of a sort that isn't among the names.
 fn field_outside<'a>(sort: &'a SortSpec, fl: &FieldList) -> Option<&'a Text>
@@ -24,21 +22,14 @@ fn field_outside<'a>(sort: &'a SortSpec, fl: &FieldList) -> Option<&'a Text>
     None
 }
 
-/// The fault of a search.
-pub(crate) fn search_fault(
+/// The fault of a search's sort, whose fields are to be among the names.
+pub(crate) fn fields_fault(
     alloc: Global,
-    collection: &Text,
     sort: &SortSpec,
     fl: &FieldList,
-    names: &Names,
 ) -> Result<Option<CheckFault>, Memory>
-    ensures { IfOk result (λ fault. fault
-        ≡ search_fault (λ name. is_known name names.now) collection.now sort.now fl.now) }
+    ensures { IfOk result (λ fault. fault ≡ field_fault (field_outside sort.now fl.now)) }
 {
-    if !is_known(collection.as_str(), names) {
-        let name = collection.copy(alloc)?;
-        return Ok(Some(CheckFault::UnknownCollection { name }));
-    }
     match field_outside(sort, fl) {
         None => Ok(None),
         Some(field) => {

@@ -1,47 +1,38 @@
-// What the check knows of each function: its fault, its order, its fields, and the collection that
-// it reads.
-ghost use Rattle.std.specs.Prelude.{◌≡◌, IfOk, OnOk, fold};
-ghost use Rattle.tuple_values.specs.Collections.{is_known};
-ghost use Rattle.expr_types.specs.ExprTree.{operator_in, first_or};
-ghost use Rattle.expr_types.specs.ExprTree.{expr_tree};
-ghost use Rattle.expr_check.specs.Reads.{with_name};
-ghost use Rattle.expr_check.specs.Rules.{fault_at, order_given, fields_given, read_by};
+// What the check knows of each function: which orders it needs, its order, and its fields.
+ghost use Rattle.std.specs.Prelude.{◌≡◌, IfOk};
+ghost use Rattle.expr_types.specs.ExprTree.{expr_tree, operator_in, first_or};
+ghost use Rattle.expr_check.specs.Rules.{need_at, order_given, fields_given};
 ghost use Rattle.expr_check.specs.declared.order.Order.TheVariants.{Any};
 
 use crate::fields::{
     all_given, all_names, first_list, keys_of, rolled_names, topic_names, with_group,
 };
 use crate::joins::join_fault;
-use crate::needs::{names_faults, search_fault, sort_faults};
+use crate::needs::{fields_fault, names_faults, sort_faults};
 use crate::orders::{first_terms, joined_order, kept_order};
 use crate::places::second_of;
 use crate::{CheckFault, Order};
 use expr_types::Expr;
 use sort_spec::SortSpec;
 use std::alloc::Global;
-use tuple_values::{FieldList, Memory, Names, Text, TryCopy};
+use tuple_values::{FieldList, Memory, TryCopy};
 
-/// The fault of the function itself over inputs of these orders.
-pub(crate) fn fault_at(
+/// The fault of the function over inputs of these orders.
+pub(crate) fn need_at(
     alloc: Global,
     expr: &Expr,
     orders: &[Order],
-    names: &Names,
 ) -> Result<Option<CheckFault>, Memory>
-    ensures { IfOk result (λ fault. fault ≡ fault_at (λ name. is_known name names.now)
-        (operator_in (expr_tree expr.now)) orders.now) }
+    ensures { IfOk result (λ fault. fault
+        ≡ need_at (operator_in (expr_tree expr.now)) orders.now) }
 {
     match expr {
-        Expr::Search {
-            collection,
-            fl,
-            sort,
-            ..
-        } => search_fault(alloc, collection, sort, fl, names),
+        Expr::Search { fl, sort, .. } => fields_fault(alloc, sort, fl),
         Expr::Unique { over, .. } => names_faults(alloc, "unique", over, orders),
         Expr::Reduce { by, .. } => names_faults(alloc, "reduce", by, orders),
         Expr::Rollup { over, .. } => names_faults(alloc, "rollup", over, orders),
         Expr::Merge { on, .. } => sort_faults(alloc, "merge", on, orders),
+        Expr::Parallel { sort, .. } => sort_faults(alloc, "parallel", sort, orders),
         Expr::InnerJoin { on, .. } => join_fault(alloc, "innerJoin", on, orders),
         Expr::LeftOuterJoin { on, .. } => join_fault(alloc, "leftOuterJoin", on, orders),
         Expr::Intersect { on, .. } => join_fault(alloc, "intersect", on, orders),
@@ -53,7 +44,6 @@ pub(crate) fn fault_at(
         | Expr::Top { .. }
         | Expr::HashJoin { .. }
         | Expr::OuterHashJoin { .. }
-        | Expr::Parallel { .. }
         | Expr::Topic { .. }
         | Expr::Update { .. }
         | Expr::Commit { .. }
@@ -85,7 +75,8 @@ pub fn order_given(
         Expr::Search { sort, .. }
         | Expr::Sort { by: sort, .. }
         | Expr::Top { sort, .. }
-        | Expr::Merge { on: sort, .. } => Ok(Order::By(sort.copy(alloc)?)),
+        | Expr::Merge { on: sort, .. }
+        | Expr::Parallel { sort, .. } => Ok(Order::By(sort.copy(alloc)?)),
         Expr::Tuple { .. } => Ok(Order::Any),
         Expr::Select { items, .. } => kept_order(alloc, items, &first_order(orders)),
         Expr::Having { .. }
@@ -102,11 +93,9 @@ pub fn order_given(
         Expr::Reduce { by: names, .. } | Expr::Rollup { over: names, .. } => {
             first_terms(alloc, names.len(), &first_order(orders))
         }
-        Expr::Parallel { .. }
-        | Expr::Topic { .. }
-        | Expr::Update { .. }
-        | Expr::Commit { .. }
-        | Expr::Daemon { .. } => Ok(Order::By(SortSpec::new(alloc))),
+        Expr::Topic { .. } | Expr::Update { .. } | Expr::Commit { .. } | Expr::Daemon { .. } => Ok(
+            Order::By(SortSpec::new(alloc)),
+        ),
     }
 }
 
@@ -137,45 +126,5 @@ pub fn fields_given(alloc: Global, expr: &Expr, lists: Vec<FieldList>) -> Result
         | Expr::Update { .. }
         | Expr::Commit { .. }
         | Expr::Daemon { .. } => Ok(first_list(alloc, lists)),
-    }
-}
-
-// Adds a name at the end, where it isn't there.
-fn add_name(alloc: Global, name: &Text, list: &mut FieldList) -> Result<(), Memory>
-    ensures { OnOk result (list.new ≡ with_name list.old name.now) }
-{
-    if !list.contains(name.as_str()) {
-        list.push(name.copy(alloc)?)?;
-    }
-    Ok(())
-}
-
-/// Adds the collection that the function reads.
-pub(crate) fn add_read(alloc: Global, expr: &Expr, list: &mut FieldList) -> Result<(), Memory>
-    ensures { OnOk result (list.new
-        ≡ fold with_name list.old (read_by (operator_in (expr_tree expr.now)))) }
-{
-    match expr {
-        Expr::Search { collection, .. } => add_name(alloc, collection, list),
-        Expr::Tuple { .. }
-        | Expr::Select { .. }
-        | Expr::Having { .. }
-        | Expr::Sort { .. }
-        | Expr::Top { .. }
-        | Expr::Unique { .. }
-        | Expr::Merge { .. }
-        | Expr::Reduce { .. }
-        | Expr::Rollup { .. }
-        | Expr::InnerJoin { .. }
-        | Expr::LeftOuterJoin { .. }
-        | Expr::Intersect { .. }
-        | Expr::Complement { .. }
-        | Expr::HashJoin { .. }
-        | Expr::OuterHashJoin { .. }
-        | Expr::Parallel { .. }
-        | Expr::Topic { .. }
-        | Expr::Update { .. }
-        | Expr::Commit { .. }
-        | Expr::Daemon { .. } => Ok(()),
     }
 }

@@ -1,33 +1,44 @@
-use Rattle.std.proofs.Common.{◌≡◌, [], fold, ap, ◌∙◌, None}
+use Rattle.std.proofs.Common.{◌≡◌, ap, None, sym, subst, ◌∙◌}
 use Rattle.std.specs.Prelude.{is_none}
 use Rattle.tuple_values.specs.Collections.{is_known}
 use Rattle.expr_types.specs.ExprTree.{expr_tree}
-use Rattle.expr_check.specs.Reads.{with_name}
-use Rattle.expr_check.specs.Walk.{searched_in}
-use Rattle.expr_check.specs.Walk.{fault_of}
-use Rattle.expr_check.proofs.FaultLemmas.{fault_where-own, fault_where-there}
-use Rattle.expr_check.proofs.WalkLemmas.{once-fold}
+use Rattle.expr_check.specs.Places.{at_root}
+use Rattle.expr_check.specs.Walk.{fault_of, fault_where}
+use Rattle.expr_check.specs.declared.roots.Place.{Place}
+use Rattle.expr_check.specs.declared.roots.Roots.{Roots}
+use Rattle.expr_check.proofs.FaultLemmas.{fault_where-own, fault_where-there, fault_where-plain}
 use Rattle.expr_check.proofs.checking.check.Goals as goal
+
+-- the fault that was found is none
+none : (c : goal.In-None) → fault_of c.args.roots c.args.names.now (expr_tree c.args.expr) ≡ None
+none c =
+    ap
+    (λ (p : Place).
+    fault_where c.args.roots p (λ name. is_known name c.args.names.now) (expr_tree c.args.expr))
+    (sym c.at_root.ensures)
+    ∙ sym c.in_ok-order.ensures.fault ∙ c.in-None.is
 
 pub new-requires-clause-met : goal.new-requires-clause-met
 new-requires-clause-met c =
-    let names = c.args.names.now in
-    let t = expr_tree c.args.expr in
-    let none : fault_of names t ≡ None =
-    cc (c.in_ok-order.ensures.fault, c.in_ok-order.fault-is, c.in_default.is) in
-    ap is_none (fault_where-own (λ name. is_known name names) t none)
+    ap is_none
+    (fault_where-own c.args.roots at_root (λ name. is_known name c.args.names.now)
+    (expr_tree c.args.expr) (none c))
 
-pub new-requires-clause-reads : goal.new-requires-clause-reads
-new-requires-clause-reads c =
-    let searched = searched_in (expr_tree c.args.expr) in
-    c.in_ok-add_searched.ensures
-    ∙ ap (λ l. fold with_name l searched) c.new-collections.ensures
-    ∙ once-fold [] searched
-
-pub returns-clause-stands : goal.returns-clause-stands
-returns-clause-stands c =
-    let names = c.args.names.now in
+pub returns-in-None-clause-stands : goal.returns-in-None-clause-stands
+returns-in-None-clause-stands c =
     let t = expr_tree c.args.expr in
-    let none : fault_of names t ≡ None =
-    cc (c.in_ok-order.ensures.fault, c.in_ok-order.fault-is, c.in_default.is) in
-    fault_where-there (λ name. is_known name names) t none
+    let found : fault_of c.args.roots c.args.names.now t ≡ None =
+    ap (λ (p : Place). fault_where c.args.roots p (λ name. is_known name c.args.names.now) t)
+    (sym c.at_root.ensures)
+    ∙ sym c.in_ok-order.ensures.fault ∙ c.in-None.is in
+    fault_where-there c.args.roots at_root (λ name. is_known name c.args.names.now) t found
+
+pub returns-in-None-clause-plain : goal.returns-in-None-clause-plain
+returns-in-None-clause-plain c = λ is.
+    let t = expr_tree c.args.expr in
+    let found : fault_of c.args.roots c.args.names.now t ≡ None =
+    ap (λ (p : Place). fault_where c.args.roots p (λ name. is_known name c.args.names.now) t)
+    (sym c.at_root.ensures)
+    ∙ sym c.in_ok-order.ensures.fault ∙ c.in-None.is in
+    fault_where-plain at_root (λ name. is_known name c.args.names.now) t
+    (subst (λ (r : Roots). fault_of r c.args.names.now t ≡ None) is found)
