@@ -11,3 +11,4 @@ pub mod PairLemmas
 pub mod FieldLemmas
 pub mod JoinLemmas
 pub mod LawLemmas
+pub mod SendLemmas

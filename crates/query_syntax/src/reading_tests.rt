@@ -128,7 +128,7 @@ fn a_text_says_its_field_and_test(rt: HostRuntime) -> Result<(), Fail> {
 }
 
 // A text with the place of its fault; none where it asks for everything.
-const PLACES: [(&str, Option<u64>); 53] = [
+const PLACES: [(&str, Option<u64>); 54] = [
     ("*:*", None),
     (" *:*\n", None),
     ("\t\r *:* \n\t\r", None),
@@ -142,6 +142,7 @@ const PLACES: [(&str, Option<u64>); 53] = [
     ("*:**:*", None),
     ("x", Some(1)),
     ("foo bar", Some(3)),
+    ("a_s:x AND", Some(9)),
     ("a :b", Some(1)),
     ("a:", Some(2)),
     ("a:(b", Some(4)),
@@ -211,4 +212,43 @@ fn assert_places(
 #[test]
 fn texts_are_read_or_have_their_place(rt: HostRuntime) -> Result<(), Fail> {
     assert_places(&rt, rt.alloc(), &PLACES)
+}
+
+// The query, the fields of a document, and whether it matches.
+type Match = (&'static str, &'static [(&'static str, &'static str)], bool);
+
+// A list of clauses; a list that prohibits alone, at the top and below it.
+const MATCHES: [Match; 9] = [
+    (
+        "a_s:x OR b_s:y AND c_s:z",
+        &[("a_s", "x"), ("id", "1")],
+        false,
+    ),
+    (
+        "a_s:x OR b_s:y AND c_s:z",
+        &[("b_s", "y"), ("c_s", "z"), ("id", "2")],
+        true,
+    ),
+    ("a_s:x b_s:y -c_s:z", &[("b_s", "y")], true),
+    ("a_s:x b_s:y -c_s:z", &[("id", "1")], false),
+    ("a_s:x b_s:y -c_s:z", &[("a_s", "x"), ("c_s", "z")], false),
+    ("-a_s:x", &[("id", "2")], true),
+    ("-a_s:x", &[("a_s", "x"), ("id", "1")], false),
+    ("+(-a_s:x)", &[("id", "2")], false),
+    ("+(-a_s:x)", &[("a_s", "x"), ("id", "1")], false),
+];
+
+#[test]
+fn what_is_read_matches_as_its_row_says(rt: HostRuntime) -> Result<(), Fail> {
+    let alloc = rt.alloc();
+    for (text, fields, matches) in &MATCHES {
+        let query = read_query(alloc, text)?;
+        let tuple = texts(alloc, fields)?;
+        assert_eq!(rt;
+            query.matches(&tuple),
+            *matches,
+            "of {text:?} and {fields:?}"
+        );
+    }
+    Ok(())
 }

@@ -172,98 +172,12 @@ fn values_pass_the_tests_as_the_rules_say(rt: HostRuntime) -> Result<(), Fail> {
     assert_values(&rt, rt.alloc(), &VALUES)
 }
 
-// For each row a clause of its role, with a test for the word on the field.
-fn words(alloc: Global, clauses: &[(Role, &str, &str)]) -> Result<Clauses, Memory> {
-    let mut all = Clauses::new(alloc);
-    for (role, name, word) in clauses {
-        let test = Test::Word(Text::of(alloc, word)?);
-        let what = What::Field {
-            name: Text::of(alloc, name)?,
-            test,
-        };
-        all.push(Clause { role: *role, what })?;
-    }
-    Ok(all)
-}
-
 pub fn texts(alloc: Global, fields: &[(&str, &str)]) -> Result<Tuple, Memory> {
     let mut tuple = Tuple::empty(alloc);
     for (name, text) in fields {
         tuple.put(Text::of(alloc, name)?, Value::Text(Text::of(alloc, text)?))?;
     }
     Ok(tuple)
-}
-
-// A list of one clause, which holds the clauses.
-fn nested(alloc: Global, role: Role, clauses: Clauses) -> Result<Clauses, Memory> {
-    let mut all = Clauses::new(alloc);
-    all.push(Clause {
-        role,
-        what: What::Nested(clauses),
-    })?;
-    Ok(all)
-}
-
-#[test]
-fn an_optional_clause_beside_required_ones_is_not_needed(rt: HostRuntime) -> Result<(), Fail> {
-    let alloc = rt.alloc();
-    let query = Query {
-        clauses: words(
-            alloc,
-            &[
-                (Role::Optional, "a_s", "x"),
-                (Role::Required, "b_s", "y"),
-                (Role::Required, "c_s", "z"),
-            ],
-        )?,
-    };
-    let first = texts(alloc, &[("a_s", "x"), ("id", "1")])?;
-    let second = texts(alloc, &[("b_s", "y"), ("c_s", "z"), ("id", "2")])?;
-    assert!(rt; !query.matches(&first));
-    assert!(rt; query.matches(&second));
-    Ok(())
-}
-
-#[test]
-fn some_optional_clause_matches_where_none_is_required(rt: HostRuntime) -> Result<(), Fail> {
-    let alloc = rt.alloc();
-    let query = Query {
-        clauses: words(
-            alloc,
-            &[
-                (Role::Optional, "a_s", "x"),
-                (Role::Optional, "b_s", "y"),
-                (Role::Prohibited, "c_s", "z"),
-            ],
-        )?,
-    };
-    assert!(rt; query.matches(&texts(alloc, &[("b_s", "y")])?));
-    assert!(rt; !query.matches(&texts(alloc, &[("id", "1")])?));
-    assert!(rt; !query.matches(&texts(alloc, &[("a_s", "x"), ("c_s", "z")])?));
-    Ok(())
-}
-
-#[test]
-fn prohibited_clauses_alone_match_all_others_at_the_top(rt: HostRuntime) -> Result<(), Fail> {
-    let alloc = rt.alloc();
-    let first = texts(alloc, &[("a_s", "x"), ("id", "1")])?;
-    let second = texts(alloc, &[("id", "2")])?;
-    let top = Query {
-        clauses: words(alloc, &[(Role::Prohibited, "a_s", "x")])?,
-    };
-    assert!(rt; !top.matches(&first));
-    assert!(rt; top.matches(&second));
-    let inner = words(alloc, &[(Role::Prohibited, "a_s", "x")])?;
-    let under = Query {
-        clauses: nested(alloc, Role::Required, inner)?,
-    };
-    assert!(rt; !under.matches(&first));
-    assert!(rt; !under.matches(&second));
-    let empty = Query {
-        clauses: Clauses::new(alloc),
-    };
-    assert!(rt; !empty.matches(&second));
-    Ok(())
 }
 
 #[test]

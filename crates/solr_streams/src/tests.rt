@@ -85,7 +85,7 @@ fn a_fault_of_a_search_is_told(rt: HostRuntime) -> Result<(), Fail> {
 }
 
 // Expressions, and the tuples that they give, with a comma between each and the next.
-const DECORATED: [(&str, &str); 9] = [
+const DECORATED: [(&str, &str); 12] = [
     (
         "merge(tuple(a=1,b=1),tuple(a=1,b=2),on=\"a asc\")",
         "{\"a\":1,\"b\":1},{\"a\":1,\"b\":2}",
@@ -123,6 +123,17 @@ const DECORATED: [(&str, &str); 9] = [
          over=\"m\")",
         "{\"m\":2},{\"m\":1}",
     ),
+    (
+        "innerJoin(merge(tuple(k=1,l=1,x=1),tuple(k=1,l=2,x=2),on=\"k asc\"),\
+         merge(tuple(k=1,x=9,y=1),tuple(k=1,x=8,y=2),on=\"k asc\"),on=\"k\")",
+        "{\"k\":1,\"l\":1,\"x\":9,\"y\":1},{\"k\":1,\"l\":1,\"x\":8,\"y\":2},\
+         {\"k\":1,\"l\":2,\"x\":9,\"y\":1},{\"k\":1,\"l\":2,\"x\":8,\"y\":2}",
+    ),
+    (
+        "outerHashJoin(tuple(a=1),hashed=tuple(b=2),on=\"a=b\")",
+        "{\"a\":1}",
+    ),
+    ("complement(tuple(a=1),tuple(a=2),on=\"a\")", "{\"a\":1}"),
 ];
 
 #[test]
@@ -136,7 +147,13 @@ fn decorators_are_answered(rt: HostRuntime) -> Result<(), Fail> {
 }
 
 // Words, expressions that have a fault, and what is told of it.
-const UNSORTED: [(&str, &str, &str); 6] = [
+const UNSORTED: [(&str, &str, &str); 7] = [
+    (
+        "eval c=1",
+        "innerJoin(search(c,q=\"*:*\",fl=\"k_i\",sort=\"k_i asc\"),\
+         search(c,q=\"*:*\",fl=\"k_i\",sort=\"k_i desc\"),on=\"k_i\")",
+        "NotSorted innerJoin needs k_i asc has k_i desc",
+    ),
     (
         "eval",
         "merge(sort(tuple(a=1),by=\"a desc\"),tuple(a=2),on=\"a asc\")",
