@@ -42,7 +42,7 @@ use Rattle.expr_check.proofs.AscendLemmas.{each_filter, each_take, each_firsts}
 use Rattle.expr_check.proofs.ChosenLemmas.{changes-untouched, choices-untouched}
 use Rattle.expr_check.proofs.KeyLemmas.{number_keeps}
 use Rattle.expr_check.proofs.PairLemmas.{pairs_each}
-use Rattle.expr_check.proofs.WalkLemmas.{once-fold}
+use Rattle.expr_check.proofs.ReadLemmas.{once-fold}
 
 -- a name is in two lists joined where it is in one of them
 is_named-append : (name : ByteList) (xs ys : List ByteList)
@@ -345,7 +345,8 @@ given_within docs (complement on) names lists a =
     (first_within names lists a)
 given_within docs (hash_join on) names lists a = inner_within on names lists a
 given_within docs (outer_hash_join on) names lists a = outer_within on names lists a
-given_within docs (in_parallel collection workers by) names lists a = tt
+given_within docs (in_parallel collection workers by) names lists a =
+    first_within names lists a
 given_within docs (topic p) names lists a = tt
 given_within docs (update dest size) names lists a = tt
 given_within docs (commit dest size) names lists a = tt

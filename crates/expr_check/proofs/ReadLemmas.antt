@@ -2,7 +2,7 @@
 use Rattle.std.proofs.Common.{◌≡◌, ℕ, ◌+◌, ◌<◌, List, [], ◌∷◌, ◌++◌, length, get_or, drop, filter}
 use Rattle.std.proofs.Common.{Bool, true, false, not, ◌||◌, if◌then◌else◌, refl, fold, ap, sym, ◌∙◌}
 use Rattle.std.proofs.Common.{append_assoc, Option, Some, None, ◌&&◌, arith}
-use Rattle.std.specs.Prelude.{bytes_eq, is_none, option_map}
+use Rattle.std.specs.Prelude.{bytes_eq, is_none, is_some, option_map}
 use Rattle.std.specs.List.{list_all}
 use Rattle.std.proofs.lemmas.List.{append-nil, at_drop_more}
 use Rattle.tuple_values.specs.Document.{ByteList, is_named}
@@ -38,15 +38,18 @@ once-fold names (name ∷ more) =
     ∙ once-fold (names ++ (name ∷ [])) more
     ∙ ap once (append_assoc names (name ∷ []) more)
 
+-- one of two tests, where the second one stays
+or_kept : (a b c : Bool) → (a || b) ≡ true → (b ≡ true → c ≡ true) → (a || c) ≡ true
+or_kept true b c e h = refl
+or_kept false b c e h = h e
+
 -- a name is among others behind which one more stands
 named-append : (name : ByteList) (names more : List ByteList) → is_named name names ≡ true
     → is_named name (names ++ more) ≡ true
 named-append name [] more e = absurd (cc)
-named-append name (first ∷ names) more e = by (bytes_eq first name) e where
-  by : (is : Bool) → (is || is_named name names) ≡ true
-      → (is || is_named name (names ++ more)) ≡ true
-  by true e = refl
-  by false e = named-append name names more e
+named-append name (first ∷ names) more e =
+    or_kept (bytes_eq first name) (is_named name names) (is_named name (names ++ more)) e
+    (named-append name names more)
 
 -- a name stays among names with one more
 named-with : (name word : ByteList) (names : List ByteList) → is_named name names ≡ true
@@ -56,13 +59,16 @@ named-with name word names e = by (is_named word names) where
   by true = e
   by false = named-append name names (word ∷ []) e
 
+-- one of two tests is the second one
+or_second : (a b : Bool) → b ≡ true → (a || b) ≡ true
+or_second true b e = refl
+or_second false b e = e
+
 -- a name that is added last is among the names
 named-last : (name : ByteList) (names : List ByteList) → is_named name (names ++ (name ∷ [])) ≡ true
 named-last name [] = ap (λ (is : Bool). is || false) (itself_bytes name)
-named-last name (first ∷ names) = by (bytes_eq first name) where
-  by : (is : Bool) → (is || is_named name (names ++ (name ∷ []))) ≡ true
-  by true = refl
-  by false = named-last name names
+named-last name (first ∷ names) =
+    or_second (bytes_eq first name) (is_named name (names ++ (name ∷ []))) (named-last name names)
 
 -- a name that is added is among the names
 named-added : (name : ByteList) (names : List ByteList) → is_named name (with_name names name) ≡ true
@@ -79,29 +85,36 @@ with-named name names e =
     ap (λ (is : Bool). if is then names else names ++ (name ∷ [])) e
 
 -- so it may as well be left out
-without_fold : (name : ByteList) (names more : List ByteList) → is_named name names ≡ true
+without_fold_by : (name word : ByteList) (names more : List ByteList) (is : Bool)
+    → bytes_eq word name ≡ is → is_named name names ≡ true
+    → ((others : List ByteList) → is_named name others ≡ true
+    → fold with_name others (filter (λ other. not (bytes_eq other name)) more)
+    ≡ fold with_name others more)
+    → fold with_name names
+    (if not is then word ∷ filter (λ other. not (bytes_eq other name)) more
+    else filter (λ other. not (bytes_eq other name)) more)
+    ≡ fold with_name (with_name names word) more
+without_fold_by name word names more true is e h =
+    h names e
+    ∙ ap (λ (l : List ByteList). fold with_name l more)
+    (sym (with-named word names
+    (ap (λ (w : ByteList). is_named w names) (same_bytes word name is) ∙ e)))
+without_fold_by name word names more false is e h =
+    h (with_name names word) (named-with name word names e)
+
+without_fold : (name : ByteList) (more names : List ByteList) → is_named name names ≡ true
     → fold with_name names (filter (λ other. not (bytes_eq other name)) more)
     ≡ fold with_name names more
-without_fold name names [] e = refl
-without_fold name names (word ∷ more) e = by (bytes_eq word name) refl where
-  by : (is : Bool) → bytes_eq word name ≡ is
-      → fold with_name names
-      (if not is then word ∷ filter (λ other. not (bytes_eq other name)) more
-      else filter (λ other. not (bytes_eq other name)) more)
-      ≡ fold with_name (with_name names word) more
-  by true is =
-      without_fold name names more e
-      ∙ ap (λ (l : List ByteList). fold with_name l more)
-      (sym (with-named word names
-      (ap (λ (w : ByteList). is_named w names) (same_bytes word name is) ∙ e)))
-  by false is = without_fold name (with_name names word) more (named-with name word names e)
+without_fold name [] names e = refl
+without_fold name (word ∷ more) names e =
+    without_fold_by name word names more (bytes_eq word name) refl e (without_fold name more)
 
 -- names are added one by one as well where each of them counts once
 pub fold-once : (names more : List ByteList)
     → fold with_name names (once more) ≡ fold with_name names more
 fold-once names [] = refl
 fold-once names (name ∷ more) =
-    without_fold name (with_name names name) (once more) (named-added name names)
+    without_fold name (once more) (with_name names name) (named-added name names)
     ∙ fold-once (with_name names name) more
 
 -- names that count once do so already
@@ -140,16 +153,20 @@ fold_new names yielded list name so_far named =
 -- what adds names that count once needs
 pub ruleset fold_steps = (fold_to_none, fold_known, fold_new)
 
+-- the first of several names that isn't there, where the first one is there or not
+unknown_by : (is_there : ByteList → Bool) (name : ByteList) (names : List ByteList) (is : Bool)
+    → is_none (first_unknown is_there names) ≡ list_all is_there names
+    → is_none (if is then first_unknown is_there names else Some name)
+    ≡ (is && list_all is_there names)
+unknown_by is_there name names true h = h
+unknown_by is_there name names false h = refl
+
 -- the first name that isn't there is none exactly where all are there
 first_unknown-none : (is_there : ByteList → Bool) (names : List ByteList)
     → is_none (first_unknown is_there names) ≡ list_all is_there names
 first_unknown-none is_there [] = refl
-first_unknown-none is_there (name ∷ names) = by (is_there name) where
-  by : (is : Bool)
-      → is_none (if is then first_unknown is_there names else Some name)
-      ≡ (is && list_all is_there names)
-  by true = first_unknown-none is_there names
-  by false = refl
+first_unknown-none is_there (name ∷ names) =
+    unknown_by is_there name names (is_there name) (first_unknown-none is_there names)
 
 -- a view of a value is there where the value is
 option_map-none : {X Y : Type 0} (f : X → Y) (r : Option X)
@@ -157,12 +174,20 @@ option_map-none : {X Y : Type 0} (f : X → Y) (r : Option X)
 option_map-none f None = refl
 option_map-none f (Some x) = refl
 
--- also where it is found
-pub unknown_found : {X : Type 0} (f : X → ByteList) (r : Option X) (is_there : ByteList → Bool)
-    (names : List ByteList) → option_map f r ≡ first_unknown is_there names
-    → is_none r ≡ list_all is_there names
-unknown_found f r is_there names e =
-    option_map-none f r ∙ ap is_none e ∙ first_unknown-none is_there names
+-- what isn't there, as it is told
+told_none : {X : Type 0} (r : Option X) (told : Bool) → is_some r ≡ not told → told ≡ is_none r
+told_none None true e = refl
+told_none None false e = absurd (cc)
+told_none (Some x) true e = absurd (cc)
+told_none (Some x) false e = refl
+
+-- so it is told whether all names are there
+pub unknown_told : {X : Type 0} (f : X → ByteList) (r : Option X) (told : Bool)
+    (is_there : ByteList → Bool) (names : List ByteList) → is_some r ≡ not told
+    → option_map f r ≡ first_unknown is_there names → told ≡ list_all is_there names
+unknown_told f r told is_there names is e =
+    told_none r told is
+    ∙ option_map-none f r ∙ ap is_none e ∙ first_unknown-none is_there names
 
 -- a test of two lists is that of both
 list_all-append : {X : Type 0} (p : X → Bool) (xs ys : List X)
@@ -181,6 +206,24 @@ known-parts names t =
     ap (λ w. are_known (named_in w) names) (sym (node-parts t))
     ∙ list_all-append (λ name. is_known name names) (named_by (operator_in t))
     (all_named (inputs_of (inputs_in t)))
+
+-- so where those of the operator are there, those of its inputs decide
+pub known_inputs : (names : List NameShards) (t : ExprTree) (known : Bool)
+    → known ≡ are_known (named_by (operator_in t)) names → known ≡ true
+    → are_known (named_in t) names ≡ are_known (all_named (inputs_of (inputs_in t))) names
+known_inputs names t known is here =
+    known-parts names t
+    ∙ ap (λ (b : Bool). b && are_known (all_named (inputs_of (inputs_in t))) names)
+    (sym is ∙ here)
+
+-- and where they are not, none
+pub known_not : (names : List NameShards) (t : ExprTree) (known : Bool)
+    → known ≡ are_known (named_by (operator_in t)) names → known ≡ false
+    → are_known (named_in t) names ≡ false
+known_not names t known is away =
+    known-parts names t
+    ∙ ap (λ (b : Bool). b && are_known (all_named (inputs_of (inputs_in t))) names)
+    (sym is ∙ away)
 
 -- and those of the inputs from a place on where those of the one there and of the others are
 pub known-more : (names : List NameShards) (exprs : List ExprTree) (k : ℕ) (e : ExprTree)
@@ -217,3 +260,26 @@ reads_more names all found list exprs k e lt is added reads before =
     (ap (λ x. searched_in x ++ rest) is
     ∙ sym (at_drop_more (λ r. all_searched (inputs_of r)) exprs k e lt))
     ∙ before
+
+-- one more input of which they are there
+pub known_next : (names : List NameShards) (exprs : List ExprTree) (k : ℕ) (e : ExprTree)
+    (known whole : Bool) → k < length exprs → e ≡ get_or exprs k e
+    → known ≡ are_known (named_in e) names → known ≡ true
+    → whole ≡ are_known (all_named (inputs_of (drop k exprs))) names
+    → whole ≡ are_known (all_named (inputs_of (drop (k + 1) exprs))) names
+known_next names exprs k e known whole lt at is here so_far =
+    so_far
+    ∙ known-more names exprs k e lt at
+    ∙ ap (λ (b : Bool). b && are_known (all_named (inputs_of (drop (k + 1) exprs))) names)
+    (sym is ∙ here)
+
+-- and one of which they are not
+pub known_stops : (names : List NameShards) (exprs : List ExprTree) (k : ℕ) (e : ExprTree)
+    (known whole : Bool) → k < length exprs → e ≡ get_or exprs k e
+    → known ≡ are_known (named_in e) names → known ≡ false
+    → whole ≡ are_known (all_named (inputs_of (drop k exprs))) names → whole ≡ false
+known_stops names exprs k e known whole lt at is away so_far =
+    so_far
+    ∙ known-more names exprs k e lt at
+    ∙ ap (λ (b : Bool). b && are_known (all_named (inputs_of (drop (k + 1) exprs))) names)
+    (sym is ∙ away)

@@ -20,12 +20,7 @@ use tuple_values::Names;
 
 /// Checks that an expression may be evaluated over collections of these names. The expression is
 /// moved in, and dropped after an `Err`.
-pub fn check(
-    alloc: Global,
-    expr: Expr,
-    names: &Names,
-    roots: Roots,
-) -> Result<Checked, CheckFault>
+pub fn check(alloc: Global, expr: Expr, names: &Names, roots: Roots) -> Result<Checked, CheckFault>
     // A plan gives it.
     requires planned { IsPlanned (expr_tree expr) }
 

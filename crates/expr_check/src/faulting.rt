@@ -16,11 +16,7 @@ use std::alloc::Global;
 use tuple_values::{Memory, Names, Text, TryCopy};
 
 // The fault of a function that may not stand at its place.
-fn place_fault(
-    alloc: Global,
-    function: &str,
-    stands: bool,
-) -> Result<Option<CheckFault>, Memory>
+fn place_fault(alloc: Global, function: &str, stands: bool) -> Result<Option<CheckFault>, Memory>
     ensures { IfOk result (λ fault. fault ≡ place_fault function.now stands) }
 {
     if stands {

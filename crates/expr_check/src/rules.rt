@@ -93,10 +93,9 @@ pub fn order_given(
         Expr::Reduce { by: names, .. } | Expr::Rollup { over: names, .. } => {
             first_terms(alloc, names.len(), &first_order(orders))
         }
-        Expr::Topic { .. }
-        | Expr::Update { .. }
-        | Expr::Commit { .. }
-        | Expr::Daemon { .. } => Ok(Order::By(SortSpec::new(alloc))),
+        Expr::Topic { .. } | Expr::Update { .. } | Expr::Commit { .. } | Expr::Daemon { .. } => Ok(
+            Order::By(SortSpec::new(alloc)),
+        ),
     }
 }
 

@@ -17,11 +17,17 @@ pub walk_inputs-loop-k-init : goal.walk_inputs-loop-k-init
 walk_inputs-loop-k-init t c =
     let inputs = inputs_in (expr_tree c.args.expr.now) in
     record {
-      orders = refl;
-      fields = refl;
+      orders = ap (λ w. w ++ orders_of (inputs_of inputs)) c.new-orders.ensures.items;
+      fields = ap (λ w. w ++ all_fields (inputs_of inputs)) c.new-fields.ensures.items;
       reads = ap (λ l. fold with_name l (all_searched (inputs_of inputs))) c.in_ok-reads.ensures;
       fault = refl;
     }
+
+pub walk_inputs-with_names-requires : goal.walk_inputs-with_names-requires
+walk_inputs-with_names-requires t c =
+    c.in_ok-walked.ensures.reads
+    ∙ sym (once-once (searched_in (expr_tree c.input.result.now)))
+    ∙ ap once (sym c.in_ok-walked.ensures.reads)
 
 pub walk_inputs-loop-k-preserved : goal.walk_inputs-loop-k-preserved
 walk_inputs-loop-k-preserved t c =
@@ -41,7 +47,13 @@ walk_inputs-loop-k-preserved t c =
           ∙ inputs_more fields_of all_fields (λ e exprs. refl) inputs c.loop-k.k
           (expr_tree c.input.result.now) c.loop-k.fields.items c.in_ok-walked.walked.fields lt
           (c.input.ensures.value _) c.in_ok-walked.ensures.fields c.loop-k.invariant.fields;
-      reads = ?;
+      reads =
+          reads_more c.loop-k.reads
+          (fold with_name (once (read_by (operator_in (expr_tree c.args.expr.now))))
+          (all_searched (inputs_of inputs)))
+          c.in_ok-walked.walked.reads c.in_ok-reads-2.reads inputs c.loop-k.k
+          (expr_tree c.input.result.now) lt (c.input.ensures.value _) c.in_ok-reads-2.ensures
+          c.in_ok-walked.ensures.reads c.loop-k.invariant.reads;
       fault =
           ap
           (λ w. option_or w
