@@ -95,8 +95,7 @@ mutual
       (plain_here op (none_first (not_yet_at op) (not_yet_in inputs) none))
       (all_answered_plain inputs (none_second (not_yet_at op) (not_yet_in inputs) none))
 
-  -- and so do such inputs
-  pub all_answered_plain : (ts : ExprTrees) → not_yet_in ts ≡ None → are_plain ts ≡ true
+  all_answered_plain : (ts : ExprTrees) → not_yet_in ts ≡ None → are_plain ts ≡ true
   all_answered_plain no_exprs none = refl
   all_answered_plain (an_expr t ts) none =
       both (is_plain t) (are_plain ts)

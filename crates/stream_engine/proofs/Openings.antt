@@ -13,12 +13,12 @@ use Rattle.sort_spec.specs.declared.term.SortTerm.{SortTerm}
 use Rattle.expr_types.specs.ExprTree.{Operator, ExprTree, node, inputs_of, inputs_in, operator_in}
 use Rattle.expr_types.specs.ExprTree.{expr_list, first_or, second_or}
 use Rattle.expr_types.specs.Joins.{AreJoinable, left_names}
-use Rattle.expr_types.specs.Rules.{Collections, given, AreAsNeeded}
+use Rattle.expr_types.specs.Rules.{Collections, given, AreAsNeeded, rule_of}
 use Rattle.expr_types.specs.Lists.{list_of, lists_of}
 use Rattle.expr_types.specs.Orders.{IsSortedOver, sort_over}
-use Rattle.expr_types.specs.Plain.{not_yet, not_yet_at, not_yet_in}
+use Rattle.expr_types.specs.Plain.{IsPlain, is_plain, are_plain, not_yet}
 use Rattle.expr_types.specs.Planned.{AreWell, AreAllWell}
-use Rattle.expr_types.proofs.PlainLemmas.{answered_inputs, all_answered_plain}
+use Rattle.expr_types.proofs.PlainLemmas.{answered_plain}
 use Rattle.expr_types.proofs.TreeLemmas.{node-parts}
 use Rattle.expr_check.specs.Orders.{AreInOrder, directions_of}
 use Rattle.expr_check.proofs.JoinLemmas.{joinable}
@@ -28,6 +28,7 @@ use Rattle.expr_check.specs.Faults.{join_fault}
 use Rattle.expr_check.specs.declared.order.Order.{Order}
 use Rattle.expr_check.proofs.FaultLemmas.{none_first, none_second}
 use Rattle.expr_check.proofs.LawLemmas.{hold_all, needs_hold}
+use Rattle.expr_check.proofs.NeedLemmas.{and_second}
 use Rattle.expr_check.proofs.WalkLemmas.{fault_where-parts}
 use Rattle.merge_join.specs.Keys.{left_order, right_order, terms_of}
 use Rattle.merge_join.proofs.KeyLemmas.{left_order-sort_over, right_order-sort_over}
@@ -46,6 +47,12 @@ fault_parts t none =
           (none_first (own_at op inputs) (own_faults inputs) both),
       none_second (own_at op inputs) (own_faults inputs) both,
     )
+
+-- the inputs of what only reads only read
+plain_inputs : (t : ExprTree) → IsPlain t → are_plain (inputs_of (inputs_in t)) ≡ true
+plain_inputs t plain =
+    and_second (rule_of (operator_in t)).is_plain (are_plain (inputs_of (inputs_in t)))
+    (ap is_plain (node-parts t) ∙ plain)
 
 -- the list of an expression is that of its operator over the lists of its inputs
 pub list_of-parts : (docs : Collections) (t : ExprTree)
@@ -68,7 +75,7 @@ ready_over docs t well none answered =
     let inputs = inputs_of (inputs_in t) in
     let parts = subst AreWell (sym (node-parts t)) well in
     let here = fault_parts t none in
-    let plain = all_answered_plain inputs (answered_inputs t answered) in
+    let plain = plain_inputs t (answered_plain t answered) in
     let held = hold_all docs inputs plain parts.1.1 here.1 in
     record {
       sorted =
