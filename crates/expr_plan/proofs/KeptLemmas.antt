@@ -23,7 +23,7 @@ use Rattle.expr_plan.specs.declared.row.Helpers.{Helpers}
 use Rattle.expr_plan.specs.declared.row.Helpers.TheVariants as helpers
 use Rattle.expr_plan.specs.declared.row.Shape.{Shape}
 use Rattle.expr_plan.proofs.ReadLemmas.{IsGood, AreGood, AreMade}
-use Rattle.expr_plan.proofs.ShapeLemmas.{has_shape, group_fits}
+use Rattle.expr_plan.proofs.ShapeLemmas.{HasShape, group_fits}
 
 -- a name among some is among more
 named_wider : (other : Option ByteList) (made : List ByteList) (name : ByteList)
@@ -83,28 +83,27 @@ all_made helpers.Group args =
     others_made helpers.Group (codes "group" ∷ []) args (λ same. cc)
 all_made helpers.Metrics args = metrics_made args
 
--- a parameter that was given passes what each of its name passes
-pub at_passes : (f : Function) (made : List ByteList) (key : ByteList) (test : Param → Bool)
+-- a fact of each parameter of a name is one of the parameter that was given
+pub at_passes : (f : Function) (made : List ByteList) (key : ByteList) (P : Param → Type 0)
     (given : List Given)
-    → ((g : Given) → IsGood f made g → bytes_eq g.name key ≡ true → test g.param ≡ true)
-    → AllByRecursion (IsGood f made) given → is_given key given ≡ true
-    → test (param_at key given) ≡ true
-at_passes f made key test [] passes all is = absurd (cc)
-at_passes f made key test (g ∷ given) passes all is =
-    go (bytes_eq g.name key) refl is (at_passes f made key test given passes all.1)
+    → ((g : Given) → IsGood f made g → bytes_eq g.name key ≡ true → P g.param)
+    → AllByRecursion (IsGood f made) given → is_given key given ≡ true → P (param_at key given)
+at_passes f made key P [] passes all is = absurd (cc)
+at_passes f made key P (g ∷ given) passes all is =
+    go (bytes_eq g.name key) refl is (at_passes f made key P given passes all.1)
   where
     go : (b : Bool) → bytes_eq g.name key ≡ b → (b || is_given key given) ≡ true
-        → (is_given key given ≡ true → test (param_at key given) ≡ true)
-        → test (cond b g.param (param_at key given)) ≡ true
+        → (is_given key given ≡ true → P (param_at key given))
+        → P (cond b g.param (param_at key given))
     go true same is later = passes g all.0 same
     go false same is later = later is
 
 -- a parameter that was given under a key has the key's shape
 pub shape_at : (f : Function) (made : List ByteList) (key : ByteList) (s : Shape) (w : Walked)
     → shape_of f key ≡ Some s → AreGood f made w → is_given key w.given ≡ true
-    → has_shape s (param_at key w.given) ≡ true
+    → HasShape s (param_at key w.given)
 shape_at f made key s w known all is =
-    at_passes f made key (has_shape s) w.given
+    at_passes f made key (HasShape s) w.given
     (λ g good same. good.2 s (ap (shape_of f) ((bytes_eq-Decides g.name key).0 same) ∙ known)) all
     is
 
@@ -114,7 +113,8 @@ pub group_at : (f : Function) (made : List ByteList) (w : Walked) → helpers_of
     → is_given (codes "group") w.given ≡ true
     → group_fits (param_at (codes "group") w.given) ≡ true
 group_at f made w group all is =
-    at_passes f made (codes "group") group_fits w.given (λ g good same. good.3 group same) all is
+    at_passes f made (codes "group") (λ p. group_fits p ≡ true) w.given
+    (λ g good same. good.3 group same) all is
 
 -- where nothing is given under a name, its parameter is nothing
 pub not_given : (key : ByteList) (given : List Given) → is_given key given ≡ false

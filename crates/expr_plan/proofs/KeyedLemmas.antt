@@ -1,6 +1,6 @@
 -- A call that has no fault has one input under each key for one.
 use Rattle.std.proofs.Common.{◌≡◌, ℕ, ◌+◌, List, [], ◌∷◌, ◌++◌, Bool, true, false, not, ◌&&◌, ◌||◌}
-use Rattle.std.proofs.Common.{cond, Option, Some, None, Result, Ok, Err, codes, refl, ap, sym, ◌∙◌}
+use Rattle.std.proofs.Common.{cond, Option, Some, None, codes, refl, ap, sym, ◌∙◌}
 use Rattle.std.proofs.Common.{subst, append-nil, arith}
 use Rattle.std.specs.Prelude.{is_some}
 use Rattle.std.specs.List.{AllByRecursion, cons_option, find}
@@ -11,7 +11,7 @@ use Rattle.expr_reader.specs.Tree.{CallTree, ArgTree, plain, named, named_call, 
 use Rattle.expr_reader.specs.Tree.{ArgTrees, no_args, an_arg}
 use Rattle.expr_plan.specs.ArgumentFaults.{bad_param, fault_if, operand_after, name_at}
 use Rattle.expr_plan.specs.ArgumentFaults.{names_after, faults_at, arg_faults, word_faults}
-use Rattle.expr_plan.specs.ArgumentFaults.{call_faults, renamed_faults}
+use Rattle.expr_plan.specs.ArgumentFaults.{call_faults}
 use Rattle.expr_plan.specs.Functions.{shape_of, operands, helpers_of, input_key, required}
 use Rattle.expr_plan.specs.Helpers.{is_helper, is_helper_word, helper_name, are_items, is_input}
 use Rattle.expr_plan.specs.Items.{renamed_item}
@@ -24,7 +24,8 @@ use Rattle.expr_plan.specs.declared.row.Function.TheVariants.{Sort, Top, Unique,
 use Rattle.expr_plan.specs.declared.row.Function.TheVariants.{Reduce, Rollup, InnerJoin}
 use Rattle.expr_plan.specs.declared.row.Function.TheVariants.{LeftOuterJoin, Intersect}
 use Rattle.expr_plan.specs.declared.row.Function.TheVariants.{Complement, HashJoin}
-use Rattle.expr_plan.specs.declared.row.Function.TheVariants.{OuterHashJoin}
+use Rattle.expr_plan.specs.declared.row.Function.TheVariants.{OuterHashJoin, Parallel, Topic}
+use Rattle.expr_plan.specs.declared.row.Function.TheVariants.{Update, Commit, Daemon}
 use Rattle.expr_plan.specs.declared.row.Helpers.TheVariants as helpers
 use Rattle.expr_plan.specs.declared.row.Place.TheVariants.{UnderKey}
 use Rattle.expr_plan.specs.declared.row.Shape.TheVariants as shape
@@ -54,6 +55,11 @@ keyed_known Intersect = tt
 keyed_known Complement = tt
 keyed_known HashJoin = (refl, refl)
 keyed_known OuterHashJoin = (refl, refl)
+keyed_known Parallel = tt
+keyed_known Topic = tt
+keyed_known Update = tt
+keyed_known Commit = tt
+keyed_known Daemon = tt
 
 -- one, where the test says so
 abbrev pub one_if : Bool → ℕ

@@ -20,7 +20,7 @@ use Rattle.expr_plan.specs.Given.{first_absent}
 use Rattle.expr_plan.specs.Helpers.{is_input}
 use Rattle.expr_plan.specs.Helpers.{made_names}
 use Rattle.expr_plan.specs.Walk.{planned, inputs_planned, input_planned, known, in_turn, if_input}
-use Rattle.expr_plan.specs.Table.{operator_of}
+use Rattle.expr_plan.specs.Operators.{operator_of}
 use Rattle.expr_plan.specs.Walk.{walked_of, complete, inputs_found}
 use Rattle.expr_plan.specs.declared.fault.PlanFault.{PlanFault}
 use Rattle.expr_plan.specs.declared.fault.PlanFault.TheVariants.{MissingParam, WrongInputs}
@@ -30,7 +30,8 @@ use Rattle.expr_plan.specs.declared.row.Function.TheVariants.{Sort, Top, Unique,
 use Rattle.expr_plan.specs.declared.row.Function.TheVariants.{Reduce, Rollup, InnerJoin}
 use Rattle.expr_plan.specs.declared.row.Function.TheVariants.{LeftOuterJoin, Intersect}
 use Rattle.expr_plan.specs.declared.row.Function.TheVariants.{Complement, HashJoin}
-use Rattle.expr_plan.specs.declared.row.Function.TheVariants.{OuterHashJoin}
+use Rattle.expr_plan.specs.declared.row.Function.TheVariants.{OuterHashJoin, Parallel, Topic}
+use Rattle.expr_plan.specs.declared.row.Function.TheVariants.{Update, Commit, Daemon}
 use Rattle.expr_plan.specs.declared.row.Place.{Place}
 use Rattle.expr_plan.specs.declared.row.Place.TheVariants.{Alone, UnderKey}
 use Rattle.expr_plan.proofs.ArgumentFaultLemmas.{told, told_then, names_in, given_named, Tells}
@@ -210,3 +211,8 @@ are_known Intersect = refl
 are_known Complement = refl
 are_known HashJoin = refl
 are_known OuterHashJoin = refl
+are_known Parallel = refl
+are_known Topic = refl
+are_known Update = refl
+are_known Commit = refl
+are_known Daemon = refl

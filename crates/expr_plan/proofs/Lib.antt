@@ -5,6 +5,7 @@ pub mod ShapeLemmas
 pub mod ReadLemmas
 pub mod KeptLemmas
 pub mod KeyedLemmas
+pub mod OperatorLemmas
 pub mod PlannedLemmas
 pub mod WalkLemmas
 pub mod GivenLemmas

@@ -2,229 +2,39 @@
 -- it has, and no more calls stand in it than in the call.
 use Rattle.std.specs.Prelude.{◌==◌, nat_le, is_some}
 use Rattle.std.proofs.lemmas.Bool.Decides.{nat_tests}
-use Rattle.std.proofs.Common.{◌≡◌, ◌≤◌, ℕ, ◌+◌, List, [], ◌∷◌, ◌++◌, Bool, true, false, not, ◌&&◌}
-use Rattle.std.proofs.Common.{◌||◌, cond, Option, Some, None, Result, Ok, Err, codes, subst, length}
+use Rattle.std.proofs.Common.{◌≡◌, ◌≤◌, ℕ, ◌+◌, List, [], ◌∷◌, ◌++◌, Bool, true, false}
+use Rattle.std.proofs.Common.{cond, Option, Some, None, Result, Ok, subst, length}
 use Rattle.std.proofs.Common.{ap, sym, ◌∙◌, refl, arith}
-use Rattle.std.specs.Str.{bytes_eq}
 use Rattle.std.specs.List.{AllByRecursion}
 use Rattle.std.proofs.lemmas.List.{length-append}
-use Rattle.std.proofs.lemmas.Slice.Eq.{bytes_eq-Decides}
 use Rattle.tuple_values.specs.Document.{ByteList, is_named}
 use Rattle.expr_reader.specs.Tree.{CallTree, call, ArgTree, plain, named, named_call, sub, renamed}
 use Rattle.expr_reader.specs.Tree.{ArgTrees, no_args, an_arg, calls, arg_calls, args_calls}
 use Rattle.expr_types.specs.ExprTree.{ExprTree, node, inputs_of, expr_list}
-use Rattle.expr_types.specs.Rules.{is_well, IsRead}
 use Rattle.expr_types.specs.Planned.{AreWell, AreAllWell, size, sizes, IsPlanned}
-use Rattle.expr_types.specs.Limits.{is_between, may_be_between, count_limit, row_limit}
 use Rattle.expr_types.specs.Planned.{call_limit}
 use Rattle.expr_plan.specs.Given.{Walked, nothing_given}
-use Rattle.expr_plan.specs.Arguments.{with_args}
 use Rattle.expr_plan.specs.Fault.{and_then}
-use Rattle.expr_plan.specs.Functions.{function_of, name_of, first_missing, takes, required}
-use Rattle.expr_plan.specs.Functions.{helpers_of, takes_all, with_keyed, is_number, input_key}
-use Rattle.expr_plan.specs.Given.{param_at, names_in, is_given, first_absent, number_in, count_in}
-use Rattle.expr_plan.specs.Given.{group_in}
+use Rattle.expr_plan.specs.Functions.{function_of}
+use Rattle.expr_plan.specs.Functions.{takes_all, with_keyed, is_number, input_key}
 use Rattle.expr_plan.specs.Helpers.{is_input, made_names}
 use Rattle.expr_plan.specs.Walk.{planned, inputs_planned, input_planned, known, in_turn, if_input}
 use Rattle.expr_plan.specs.ArgumentFaults.{arg_faults, names_after}
-use Rattle.expr_plan.specs.Table.{operator_of, row_of}
-use Rattle.expr_plan.specs.Walk.{walked_of, complete, inputs_found}
+use Rattle.expr_plan.specs.Operators.{operator_of}
+use Rattle.expr_plan.specs.Table.{row_of}
+use Rattle.expr_plan.specs.Walk.{walked_of, inputs_found}
 use Rattle.expr_plan.specs.declared.fault.PlanFault.{PlanFault}
-use Rattle.expr_plan.specs.declared.fault.PlanFault.TheVariants.{WrongInputs}
 use Rattle.expr_plan.specs.declared.row.Function.{Function}
-use Rattle.expr_plan.specs.declared.row.Function.TheVariants.{Search, Tuple, Select, Having}
-use Rattle.expr_plan.specs.declared.row.Function.TheVariants.{Sort, Top, Unique, Merge}
-use Rattle.expr_plan.specs.declared.row.Function.TheVariants.{Reduce, Rollup, InnerJoin}
-use Rattle.expr_plan.specs.declared.row.Function.TheVariants.{LeftOuterJoin, Intersect}
-use Rattle.expr_plan.specs.declared.row.Function.TheVariants.{Complement, HashJoin}
-use Rattle.expr_plan.specs.declared.row.Function.TheVariants.{OuterHashJoin}
 use Rattle.expr_plan.specs.declared.row.Inputs.{Inputs}
 use Rattle.expr_plan.specs.declared.row.Inputs.TheVariants.{Exactly, AtLeast}
 use Rattle.expr_plan.specs.declared.row.Place.{Place}
 use Rattle.expr_plan.specs.declared.row.Place.TheVariants.{Alone, UnderKey}
-use Rattle.expr_plan.specs.declared.row.Shape.TheVariants as shape
-use Rattle.expr_plan.specs.declared.param.Given.{Given}
-use Rattle.expr_plan.specs.declared.param.Param.{Param}
-use Rattle.expr_plan.specs.declared.param.Param.TheVariants as param
-use Rattle.expr_plan.proofs.ReadLemmas.{AreGood, args_good}
-use Rattle.expr_plan.proofs.ShapeLemmas.{fine, fine_same, and_then-ok, has_shape, group_fits}
+use Rattle.expr_plan.proofs.ShapeLemmas.{fine, fine_same, and_then-ok}
+use Rattle.expr_plan.proofs.OperatorLemmas.{walked_parts, walked_takes, is_there, operator_well}
+use Rattle.expr_plan.proofs.OperatorLemmas.{operator_read}
 use Rattle.expr_plan.proofs.ArgumentFaultLemmas.{told, given_named, args_tell}
 use Rattle.expr_plan.proofs.KeyedLemmas.{IsKeyed, one_if, keyed_known, keyed_found, none_found}
 use Rattle.expr_plan.proofs.LawLemmas.{first_none}
-use Rattle.expr_plan.proofs.KeptLemmas.{all_made, key_free, either_false, metrics_free, shape_at}
-use Rattle.expr_plan.proofs.KeptLemmas.{group_at, not_given}
-
--- both of two tests
-both : (a b : Bool) → a ≡ true → b ≡ true → (a && b) ≡ true
-both a b e f = rw (e, f) refl
-
--- what is complete is what was given, and nothing is missing
-complete_same : (f : Function) (w more : Walked) (missing : Option ByteList)
-    → complete f w missing ≡ Ok more → (w ≡ more) × (missing ≡ None)
-complete_same f w more None e = (fine_same w more e, refl)
-complete_same f w more (Some name) e = absurd (cc)
-
--- what the arguments give, where there are as many inputs as the function takes and nothing is
--- missing
-walked_parts : (f : Function) (args : ArgTrees) (w : Walked) → walked_of f args ≡ Ok w
-    → (takes f (inputs_found Alone f args) ≡ true)
-    × (with_args f (made_names f args) nothing_given args ≡ Ok w)
-    × (first_missing f w.given ≡ None)
-walked_parts f args w e = go (takes f (inputs_found Alone f args)) refl e
-  where
-    go : (b : Bool) → takes f (inputs_found Alone f args) ≡ b
-        → cond b (and_then (with_args f (made_names f args) nothing_given args)
-        (λ w. complete f w (first_missing f w.given)))
-        (Err (WrongInputs (name_of f) (inputs_found Alone f args))) ≡ Ok w
-        → (takes f (inputs_found Alone f args) ≡ true)
-        × (with_args f (made_names f args) nothing_given args ≡ Ok w)
-        × (first_missing f w.given ≡ None)
-    go true is e =
-        let step = and_then-ok (with_args f (made_names f args) nothing_given args)
-        (λ w. complete f w (first_missing f w.given)) w e in
-        let same = complete_same f step.0 w (first_missing f step.0.given) step.2 in (
-          is,
-          subst (λ (x : Walked). with_args f (made_names f args) nothing_given args ≡ Ok x)
-              same.0 step.1,
-          subst (λ (x : Walked). first_missing f x.given ≡ None) same.0 same.1,
-        )
-    go false is e = absurd (cc)
-
--- where a call has no fault, its function takes as many inputs as there are
-pub walked_takes : (f : Function) (args : ArgTrees) (w : Walked) → walked_of f args ≡ Ok w
-    → takes f (inputs_found Alone f args) ≡ true
-walked_takes f args w e = (walked_parts f args w e).0
-
--- each parameter is as its function takes it
-walked_good : (f : Function) (args : ArgTrees) (w : Walked) → walked_of f args ≡ Ok w
-    → AreGood f (made_names f args) w
-walked_good f args w e =
-    args_good f (made_names f args) nothing_given w args (all_made (helpers_of f) args)
-    (walked_parts f args w e).1 tt
-
--- each name of a list of which none is absent is given
-each_given : (names : List ByteList) (given : List Given) (name : ByteList)
-    → first_absent names given ≡ None → is_named name names ≡ true → is_given name given ≡ true
-each_given [] given name none is = absurd (cc)
-each_given (first ∷ names) given name none is =
-    go (is_given first given) refl none (each_given names given name)
-  where
-    here : (b : Bool) → bytes_eq first name ≡ b → (b || is_named name names) ≡ true
-        → is_given first given ≡ true
-        → (is_named name names ≡ true → is_given name given ≡ true)
-        → is_given name given ≡ true
-    here true same is there later =
-        subst (λ (x : ByteList). is_given x given ≡ true) ((bytes_eq-Decides first name).0 same)
-        there
-    here false same is there later = later is
-
-    go : (b : Bool) → is_given first given ≡ b
-        → cond b (first_absent names given) (Some first) ≡ None
-        → (first_absent names given ≡ None → is_named name names ≡ true
-        → is_given name given ≡ true)
-        → is_given name given ≡ true
-    go true there none later = here (bytes_eq first name) refl is there (later none)
-    go false there none later = absurd (cc)
-
--- what has to be given is given
-is_there : (f : Function) (args : ArgTrees) (w : Walked) (name : ByteList)
-    → walked_of f args ≡ Ok w → is_named name (required f) ≡ true → is_given name w.given ≡ true
-is_there f args w name e is =
-    each_given (required f) w.given name (walked_parts f args w e).2 is
-
--- a number of this shape is within the limits
-number_fits : (low high : ℕ) (p : Param) → has_shape (shape.Number low high) p ≡ true
-    → may_be_between low high (number_in p) ≡ true
-number_fits low high (param.Number n) e = e
-number_fits low high _ e = absurd (cc)
-
--- as a count, too
-count_fits : (low high : ℕ) (p : Param) → has_shape (shape.Number low high) p ≡ true
-    → is_between low high (count_in p) ≡ true
-count_fits low high (param.Number n) e = e
-count_fits low high _ e = absurd (cc)
-
--- so is the number of a group
-group_number : (p : Param) → group_fits p ≡ true → is_between 1 count_limit (group_in p).n ≡ true
-group_number (param.Group op) e = e
-group_number _ e = absurd (cc)
-
--- the rows of a search are within their limits, where they are given
-rows_fit : (args : ArgTrees) (w : Walked) → walked_of Search args ≡ Ok w
-    → may_be_between 0 row_limit (number_in (param_at (codes "rows") w.given)) ≡ true
-rows_fit args w e = go (is_given (codes "rows") w.given) refl
-  where
-    go : (b : Bool) → is_given (codes "rows") w.given ≡ b
-        → may_be_between 0 row_limit (number_in (param_at (codes "rows") w.given)) ≡ true
-    go true is =
-        number_fits 0 row_limit (param_at (codes "rows") w.given)
-        (shape_at Search [] (codes "rows") (shape.Number 0 row_limit) w refl
-        (walked_good Search args w e) is)
-    go false is = rw (not_given (codes "rows") w.given is) refl
-
--- so is the number of top
-top_fits : (args : ArgTrees) (w : Walked) → walked_of Top args ≡ Ok w
-    → is_between 1 count_limit (count_in (param_at (codes "n") w.given)) ≡ true
-top_fits args w e =
-    count_fits 1 count_limit (param_at (codes "n") w.given)
-    (shape_at Top [] (codes "n") (shape.Number 1 count_limit) w refl (walked_good Top args w e)
-    (is_there Top args w (codes "n") e refl))
-
--- the operator of a function with parameters that were read is well over as many inputs as it takes
-operator_well : (f : Function) (args : ArgTrees) (w : Walked) (inputs : ℕ)
-    → walked_of f args ≡ Ok w → takes_all f inputs ≡ true
-    → is_well (operator_of f w) inputs ≡ true
-operator_well Search args w inputs e takes = both (inputs == 0) _ takes (rows_fit args w e)
-operator_well Tuple args w inputs e takes = takes
-operator_well Select args w inputs e takes = takes
-operator_well Having args w inputs e takes = takes
-operator_well Sort args w inputs e takes = takes
-operator_well Top args w inputs e takes = both (inputs == 1) _ takes (top_fits args w e)
-operator_well Unique args w inputs e takes = takes
-operator_well Merge args w inputs e takes = takes
-operator_well Reduce args w inputs e takes =
-    let good = walked_good Reduce args w e in
-    let made = made_names Reduce args in
-    let by = names_in (param_at (codes "by") w.given) in
-    let op = group_in (param_at (codes "group") w.given) in
-    let fits : is_between 1 count_limit op.n ≡ true =
-    group_number (param_at (codes "group") w.given)
-    (group_at Reduce made w refl good (is_there Reduce args w (codes "group") e refl)) in
-    both (inputs == 1 && is_between 1 count_limit op.n) (not (is_named (codes "group") by))
-    (both (inputs == 1) (is_between 1 count_limit op.n) takes fits)
-    (ap not
-    (either_false (is_named (codes "group") by) false (key_free Reduce made (codes "by") w good)).0)
-operator_well Rollup args w inputs e takes =
-    let good = walked_good Rollup args w e in
-    let made = made_names Rollup args in
-    let over = names_in (param_at (codes "over") w.given) in
-    both (inputs == 1) _ takes
-    (metrics_free Rollup over made w.given refl (key_free Rollup made (codes "over") w good) good)
-operator_well InnerJoin args w inputs e takes = takes
-operator_well LeftOuterJoin args w inputs e takes = takes
-operator_well Intersect args w inputs e takes = takes
-operator_well Complement args w inputs e takes = takes
-operator_well HashJoin args w inputs e takes = takes
-operator_well OuterHashJoin args w inputs e takes = takes
-
--- no text is kept of any of them
-operator_read : (f : Function) (w : Walked) → IsRead (operator_of f w)
-operator_read Search w = tt
-operator_read Tuple w = tt
-operator_read Select w = tt
-operator_read Having w = tt
-operator_read Sort w = tt
-operator_read Top w = tt
-operator_read Unique w = tt
-operator_read Merge w = tt
-operator_read Reduce w = tt
-operator_read Rollup w = tt
-operator_read InnerJoin w = tt
-operator_read LeftOuterJoin w = tt
-operator_read Intersect w = tt
-operator_read Complement w = tt
-operator_read HashJoin w = tt
-operator_read OuterHashJoin w = tt
 
 -- each of some expressions is well
 abbrev AllWell : List ExprTree → Type 0
@@ -433,7 +243,7 @@ mutual
       subst AreWell p.is (
         operator_well p.f args p.w (length (expr_list (inputs_of inputs))) p.walked takes,
         (
-          operator_read p.f p.w,
+          operator_read p.f args p.w p.walked,
           inputs_well inputs
               (well-append p.first p.rest (args_well Alone p.f args p.first p.alone)
               (args_well UnderKey p.f args p.rest p.keyed)),

@@ -40,14 +40,15 @@ use Rattle.expr_plan.specs.declared.row.Function.TheVariants.{Sort, Top, Unique,
 use Rattle.expr_plan.specs.declared.row.Function.TheVariants.{Reduce, Rollup, InnerJoin}
 use Rattle.expr_plan.specs.declared.row.Function.TheVariants.{LeftOuterJoin, Intersect}
 use Rattle.expr_plan.specs.declared.row.Function.TheVariants.{Complement, HashJoin}
-use Rattle.expr_plan.specs.declared.row.Function.TheVariants.{OuterHashJoin}
+use Rattle.expr_plan.specs.declared.row.Function.TheVariants.{OuterHashJoin, Parallel, Topic}
+use Rattle.expr_plan.specs.declared.row.Function.TheVariants.{Update, Commit, Daemon}
 use Rattle.expr_plan.specs.declared.param.Given.{Given}
 use Rattle.expr_plan.specs.declared.param.Param.{Param}
 use Rattle.expr_plan.specs.declared.param.Param.TheVariants as param
 use Rattle.expr_plan.specs.declared.row.Helpers.{Helpers}
 use Rattle.expr_plan.specs.declared.row.Helpers.TheVariants as helpers
 use Rattle.expr_plan.specs.declared.row.Shape.{Shape}
-use Rattle.expr_plan.proofs.ShapeLemmas.{fine, fine_same, and_then-ok, has_shape, read_has}
+use Rattle.expr_plan.proofs.ShapeLemmas.{fine, fine_same, and_then-ok, HasShape, read_has}
 use Rattle.expr_plan.proofs.ShapeLemmas.{call_has, group_fits, group_read}
 
 -- a parameter names none of the made fields, and a metric is one of them; under a key it has the
@@ -57,7 +58,7 @@ IsGood f made g =
     (names_any made g.param ≡ false)
     × (helpers_of f ≡ helpers.Metrics → (m : Metric) → metric_in g ≡ Some m
     → is_named (metric_name m) made ≡ true)
-    × ((s : Shape) → shape_of f g.name ≡ Some s → has_shape s g.param ≡ true)
+    × ((s : Shape) → shape_of f g.name ≡ Some s → HasShape s g.param)
     × (helpers_of f ≡ helpers.Group → bytes_eq g.name (codes "group") ≡ true
     → group_fits g.param ≡ true)
 
@@ -107,6 +108,11 @@ told_apart Intersect = inl refl
 told_apart Complement = inl refl
 told_apart HashJoin = inl refl
 told_apart OuterHashJoin = inl refl
+told_apart Parallel = inl refl
+told_apart Topic = inl refl
+told_apart Update = inl refl
+told_apart Commit = inl refl
+told_apart Daemon = inl refl
 
 -- a name that is neither a key of a function nor what its helpers are told as
 abbrev pub IsOther : Function → ByteList → Type 0
@@ -130,6 +136,11 @@ operands_apart Intersect = tt
 operands_apart Complement = tt
 operands_apart HashJoin = tt
 operands_apart OuterHashJoin = tt
+operands_apart Parallel = ((refl, refl), tt)
+operands_apart Topic = ((refl, refl), ((refl, refl), tt))
+operands_apart Update = ((refl, refl), tt)
+operands_apart Commit = ((refl, refl), tt)
+operands_apart Daemon = tt
 
 -- a key isn't what helpers of these are told as
 pub no_key : (f : Function) (kind : Helpers) (key : ByteList) (s : Shape) → helpers_of f ≡ kind
@@ -147,7 +158,7 @@ no_key f kind key s same some is known =
 
 -- a parameter that was read under a key
 key_good : (f : Function) (made : List ByteList) (key : ByteList) (s : Shape) (p : Param)
-    → shape_of f key ≡ Some s → has_shape s p ≡ true → names_any made p ≡ false
+    → shape_of f key ≡ Some s → HasShape s p → names_any made p ≡ false
     → IsGood f made (record { name = key; param = p })
 key_good f made key s p known has free = (
   free,
@@ -156,9 +167,9 @@ key_good f made key s p known has free = (
   λ same is. absurd (no_key f helpers.Group key s same (λ e. cc) is known),
 )
   where
-    shaped : (other : Shape) → shape_of f key ≡ Some other → has_shape other p ≡ true
+    shaped : (other : Shape) → shape_of f key ≡ Some other → HasShape other p
     shaped other e =
-        let same : s ≡ other = cc in subst (λ x. has_shape x p ≡ true) same has
+        let same : s ≡ other = cc in subst (λ x. HasShape x p) same has
 
     metric : helpers_of f ≡ helpers.Metrics → (b : Bool) → bytes_eq key (codes "metric") ≡ b
         → (m : Metric) → cond b (metric_of_param p) None ≡ Some m
@@ -174,7 +185,7 @@ word_good : (f : Function) (made : List ByteList) (w more : Walked) (key text : 
 word_good f made w more key text quoted None known e all = absurd (cc)
 word_good f made w more key text quoted (Some s) known e all = go (is_given key w.given) e
   where
-    named : (p : Param) (b : Bool) → has_shape s p ≡ true → names_any made p ≡ b
+    named : (p : Param) (b : Bool) → HasShape s p → names_any made p ≡ b
         → cond b (bad f key) (fine (with_param w key p)) ≡ Ok more → AreGood f made more
     named p true has is e = absurd (cc)
     named p false has is e =

@@ -76,7 +76,12 @@ may_be_call shape.FieldNames = false
 may_be_call shape.Sort = false
 may_be_call shape.Pairs = false
 may_be_call shape.Query = false
+may_be_call shape.KeptQuery = false
 may_be_call (shape.Number low high) = false
+may_be_call (shape.Small low high) = false
+may_be_call shape.Id = false
+may_be_call shape.Flag = false
+may_be_call shape.True = false
 may_be_call shape.Input = true
 
 -- a call under a key

@@ -57,7 +57,12 @@ is_input_shape shape.FieldNames = false
 is_input_shape shape.Sort = false
 is_input_shape shape.Pairs = false
 is_input_shape shape.Query = false
+is_input_shape shape.KeptQuery = false
 is_input_shape (shape.Number low high) = false
+is_input_shape (shape.Small low high) = false
+is_input_shape shape.Id = false
+is_input_shape shape.Flag = false
+is_input_shape shape.True = false
 is_input_shape shape.Input = true
 
 -- the first key of these under which a call is an input, if there is one

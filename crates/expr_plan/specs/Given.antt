@@ -76,15 +76,35 @@ abbrev pub query_in : Param → List ClauseTree
 query_in (param.Query query) = query.clauses
 query_in _ = []
 
+-- a parameter as a query with its text
+abbrev pub kept_query_in : Param → List ClauseTree
+kept_query_in (param.KeptQuery query text) = query.clauses
+kept_query_in _ = []
+
+-- the text of such a query
+abbrev pub kept_text_in : Param → ByteList
+kept_text_in (param.KeptQuery query text) = text
+kept_text_in _ = []
+
 -- a parameter as a number, if it is one
 abbrev pub number_in : Param → Option ℕ
 number_in (param.Number n) = Some n
 number_in _ = None
 
--- a parameter as a count
-abbrev pub count_in : Param → ℕ
-count_in (param.Number n) = n
-count_in _ = 0
+-- a parameter as a number, or another one
+abbrev pub count_or : ℕ → Param → ℕ
+count_or other (param.Number n) = n
+count_or other _ = other
+
+-- a parameter as a number of 16 bits
+abbrev pub small_in : Param → ℕ
+small_in (param.Small n) = n
+small_in _ = 0
+
+-- what a parameter says as a flag
+abbrev pub flag_in : Param → Bool
+flag_in (param.Flag flag) = flag
+flag_in _ = false
 
 -- a parameter as a group
 abbrev pub group_in : Param → GroupOp

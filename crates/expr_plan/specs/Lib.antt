@@ -17,6 +17,7 @@ pub mod Literals
 pub mod Items
 pub mod GroupReading
 pub mod Table
+pub mod Operators
 pub mod TableViews
 pub mod Functions
 pub mod Helpers

@@ -1,5 +1,5 @@
 -- Literals and numbers that words are read as (own).
-use Rattle.std.specs.Prelude.{ℕ, ℤ, pos, negsuc, Bool, not, ◌&&◌, nat_le, Option, Some, None}
+use Rattle.std.specs.Prelude.{ℕ, ℤ, pos, negsuc, Bool, true, false, not, ◌&&◌, nat_le, Option, Some, None}
 use Rattle.std.specs.Prelude.{bytes_eq, codes, if◌then◌else◌}
 use Rattle.tuple_values.specs.Document.{ByteList}
 use Rattle.tuple_values.specs.Whole.{whole_of}
@@ -26,3 +26,9 @@ abbrev pub within : ℕ → ℕ → Option ℤ → Option ℕ
 within low high None = None
 within low high (Some (pos n)) = if nat_le low n && nat_le n high then Some n else None
 within low high (Some (negsuc n)) = None
+
+-- what `true` or `false` says; none for another text
+abbrev pub flag_of : ByteList → Option Bool
+flag_of text =
+    if bytes_eq text (codes "true") then Some true
+    else (if bytes_eq text (codes "false") then Some false else None)

@@ -1,25 +1,17 @@
 -- The functions that are known, a row for each (Solr Reference Guide, "Stream Source Reference" and
 -- "Stream Decorator Reference"; limits own).
 use Rattle.std.specs.Prelude.{List, [], ◌∷◌, Option, Some, None, codes}
-use Rattle.tuple_values.specs.Document.{ByteList, Doc, put}
-use Rattle.tuple_values.specs.Views.{datum_of}
-use Rattle.expr_types.specs.ConditionTree.{ConditionTree, all_of, no_conditions}
-use Rattle.expr_types.specs.ExprTree.{Operator, search, tuple, select, having, sort, top, unique}
-use Rattle.expr_types.specs.ExprTree.{merge, reduce, rollup, inner_join, left_outer_join, intersect}
-use Rattle.expr_types.specs.ExprTree.{complement, hash_join, outer_hash_join}
-use Rattle.expr_plan.specs.Given.{Walked, param_at, text_in, names_in, names_maybe, sort_in}
-use Rattle.expr_plan.specs.Given.{pairs_in, query_in, number_in, count_in, group_in, items_in, metrics_in}
-use Rattle.expr_plan.specs.declared.param.Given.{Given}
-use Rattle.expr_plan.specs.declared.param.Param.{Param}
-use Rattle.expr_plan.specs.declared.param.Param.TheVariants as param
-use Rattle.expr_types.specs.Limits.{count_limit, row_limit}
+use Rattle.tuple_values.specs.Document.{ByteList}
+use Rattle.expr_types.specs.Limits.{count_limit, row_limit, checkpoint_limit, worker_limit}
+use Rattle.expr_types.specs.Limits.{batch_limit, interval_limit}
 use Rattle.expr_plan.specs.declared.row.Function.{Function}
 use Rattle.expr_plan.specs.declared.row.Function.TheVariants.{Search, Tuple, Select, Having}
 use Rattle.expr_plan.specs.declared.row.Function.TheVariants.{Sort, Top, Unique, Merge}
 use Rattle.expr_plan.specs.declared.row.Function.TheVariants.{Reduce, Rollup, InnerJoin}
 use Rattle.expr_plan.specs.declared.row.Function.TheVariants.{LeftOuterJoin, Intersect}
 use Rattle.expr_plan.specs.declared.row.Function.TheVariants.{Complement, HashJoin}
-use Rattle.expr_plan.specs.declared.row.Function.TheVariants.{OuterHashJoin}
+use Rattle.expr_plan.specs.declared.row.Function.TheVariants.{OuterHashJoin, Parallel, Topic}
+use Rattle.expr_plan.specs.declared.row.Function.TheVariants.{Update, Commit, Daemon}
 use Rattle.expr_plan.specs.declared.row.Helpers.{Helpers}
 use Rattle.expr_plan.specs.declared.row.Helpers.TheVariants as helpers
 use Rattle.expr_plan.specs.declared.row.Inputs.{Inputs}
@@ -106,58 +98,46 @@ row_of Intersect = paired_row (codes "intersect")
 row_of Complement = paired_row (codes "complement")
 row_of HashJoin = hashed_row (codes "hashJoin")
 row_of OuterHashJoin = hashed_row (codes "outerHashJoin")
+row_of Parallel = record (a_row (codes "parallel") (Exactly 1)) {
+  operands = codes "workerCollection" ∷ [];
+  mandatory = (codes "workers", shape.Small 1 worker_limit) ∷ (codes "sort", shape.Sort) ∷ [];
+}
+row_of Topic = record (a_row (codes "topic") (Exactly 0)) {
+  operands = codes "checkpointCollection" ∷ codes "collection" ∷ [];
+  mandatory =
+      (codes "id", shape.Id)
+      ∷ (codes "q", shape.KeptQuery)
+      ∷ (codes "fl", shape.FieldNames)
+      ∷ [];
+  optional = (codes "initialCheckpoint", shape.Number 0 checkpoint_limit) ∷ [];
+}
+row_of Update = record (a_row (codes "update") (Exactly 1)) {
+  operands = codes "destination" ∷ [];
+  optional =
+      (codes "batchSize", shape.Number 1 batch_limit)
+      ∷ (codes "pruneVersionField", shape.True)
+      ∷ [];
+}
+row_of Commit = record (a_row (codes "commit") (Exactly 1)) {
+  operands = codes "destination" ∷ [];
+  optional =
+      (codes "batchSize", shape.Number 0 batch_limit)
+      ∷ (codes "waitFlush", shape.Flag)
+      ∷ (codes "waitSearcher", shape.Flag)
+      ∷ (codes "softCommit", shape.Flag)
+      ∷ [];
+}
+row_of Daemon = record (a_row (codes "daemon") (Exactly 1)) {
+  mandatory = (codes "id", shape.Id) ∷ [];
+  optional =
+      (codes "runInterval", shape.Number 0 interval_limit)
+      ∷ (codes "terminate", shape.Flag)
+      ∷ [];
+}
 
 -- each function, in the order of the table
 abbrev pub functions : List Function
 functions =
     Search ∷ Tuple ∷ Select ∷ Having ∷ Sort ∷ Top ∷ Unique ∷ Merge ∷ Reduce ∷ Rollup ∷ InnerJoin
-    ∷ LeftOuterJoin ∷ Intersect ∷ Complement ∷ HashJoin ∷ OuterHashJoin ∷ []
-
--- the fields with one literal
-abbrev pub with_field : Doc → ByteList → Param → Doc
-with_field doc name (param.Literal v) = put name (datum_of v) doc
-with_field doc name p = doc
-
--- the fields with the literals
-abbrev pub with_fields : Doc → List Given → Doc
-with_fields doc [] = doc
-with_fields doc (g ∷ given) = with_fields (with_field doc g.name g.param) given
-
--- the condition; one that always holds where there is none
-abbrev pub condition_or_all : Option ConditionTree → ConditionTree
-condition_or_all None = all_of no_conditions
-condition_or_all (Some condition) = condition
-
--- the search of these parameters
-abbrev pub search_of : List Given → Operator
-search_of given =
-    search (record {
-      collection = text_in (param_at (codes "collection") given);
-      q = query_in (param_at (codes "q") given);
-      fl = names_in (param_at (codes "fl") given);
-      sort = sort_in (param_at (codes "sort") given);
-      rows = number_in (param_at (codes "rows") given);
-      partition_keys = names_maybe (param_at (codes "partitionKeys") given);
-    })
-
--- the operator of a function with these parameters
-abbrev pub operator_of : Function → Walked → Operator
-operator_of Search w = search_of w.given
-operator_of Tuple w = tuple (with_fields [] w.given)
-operator_of Select w = select (items_in w.given)
-operator_of Having w = having (condition_or_all w.condition)
-operator_of Sort w = sort (sort_in (param_at (codes "by") w.given))
-operator_of Top w =
-    top (count_in (param_at (codes "n") w.given)) (sort_in (param_at (codes "sort") w.given))
-operator_of Unique w = unique (names_in (param_at (codes "over") w.given))
-operator_of Merge w = merge (sort_in (param_at (codes "on") w.given))
-operator_of Reduce w =
-    reduce (names_in (param_at (codes "by") w.given))
-    (group_in (param_at (codes "group") w.given))
-operator_of Rollup w = rollup (names_in (param_at (codes "over") w.given)) (metrics_in w.given)
-operator_of InnerJoin w = inner_join (pairs_in (param_at (codes "on") w.given))
-operator_of LeftOuterJoin w = left_outer_join (pairs_in (param_at (codes "on") w.given))
-operator_of Intersect w = intersect (pairs_in (param_at (codes "on") w.given))
-operator_of Complement w = complement (pairs_in (param_at (codes "on") w.given))
-operator_of HashJoin w = hash_join (pairs_in (param_at (codes "on") w.given))
-operator_of OuterHashJoin w = outer_hash_join (pairs_in (param_at (codes "on") w.given))
+    ∷ LeftOuterJoin ∷ Intersect ∷ Complement ∷ HashJoin ∷ OuterHashJoin ∷ Parallel ∷ Topic ∷ Update
+    ∷ Commit ∷ Daemon ∷ []

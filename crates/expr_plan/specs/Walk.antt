@@ -11,7 +11,7 @@ use Rattle.expr_types.specs.ExprTree.{ExprTree, node, inputs_of}
 use Rattle.expr_plan.specs.Fault.{and_then}
 use Rattle.expr_plan.specs.Functions.{function_of, name_of, takes, first_missing}
 use Rattle.expr_plan.specs.Helpers.{is_input, made_names}
-use Rattle.expr_plan.specs.Table.{operator_of}
+use Rattle.expr_plan.specs.Operators.{operator_of}
 use Rattle.expr_plan.specs.declared.fault.PlanFault.{PlanFault}
 use Rattle.expr_plan.specs.declared.fault.PlanFault.TheVariants.{UnknownFunction, MissingParam}
 use Rattle.expr_plan.specs.declared.fault.PlanFault.TheVariants.{WrongInputs}

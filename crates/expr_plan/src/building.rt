@@ -5,7 +5,7 @@ ghost use Rattle.expr_types.specs.ConditionViews.{condition_tree};
 ghost use Rattle.expr_types.specs.ExprTree.{node, inputs_of, tuple};
 ghost use Rattle.expr_types.specs.ExprTree.{expr_tree};
 ghost use Rattle.expr_plan.specs.Functions.{takes_all};
-ghost use Rattle.expr_plan.specs.Table.{operator_of, search_of, condition_or_all, with_field, with_fields};
+ghost use Rattle.expr_plan.specs.Operators.{operator_of, search_of, topic_of, condition_or_all, with_field, with_fields};
 
 use crate::param::{Given, Param, Params};
 use crate::row::Function;
@@ -112,7 +112,7 @@ fn top(alloc: Global, mut params: Params, inputs: Exprs) -> Result<Expr, Memory>
         ≡ node (operator_of Function.Top (walked params)) (inputs_of (map expr_tree inputs.items))) }
 {
     let input = only(alloc, inputs)?;
-    let n = params.take_count("n");
+    let n = params.take_count_or("n", 0);
     let sort = params.take_sort(alloc, "sort");
     Ok(Expr::Top { input, n, sort })
 }
@@ -233,6 +233,92 @@ fn outer_hash_join(alloc: Global, mut params: Params, inputs: Exprs) -> Result<E
     Ok(Expr::OuterHashJoin { input, hashed, on })
 }
 
+fn parallel(alloc: Global, mut params: Params, inputs: Exprs) -> Result<Expr, Memory>
+    requires { length inputs.items ≡ 1 }
+    ensures { IfOk result (λ e. expr_tree e
+        ≡ node (operator_of Function.Parallel (walked params)) (inputs_of (map expr_tree inputs.items))) }
+{
+    let input = only(alloc, inputs)?;
+    let collection = params.take_text(alloc, "workerCollection")?;
+    let workers = params.take_small("workers");
+    let sort = params.take_sort(alloc, "sort");
+    Ok(Expr::Parallel {
+        input,
+        collection,
+        workers,
+        sort,
+    })
+}
+
+// A topic with these parameters.
+fn topic(alloc: Global, mut params: Params) -> Result<Expr, Memory>
+    ensures { IfOk result (λ e. expr_tree e
+        ≡ node (topic_of params.items.items) (inputs_of [])) }
+{
+    let checkpoints = params.take_text(alloc, "checkpointCollection")?;
+    let collection = params.take_text(alloc, "collection")?;
+    let id = params.take_text(alloc, "id")?;
+    let (q, q_text) = params.take_kept_query(alloc, "q")?;
+    let fl = params.take_names(alloc, "fl");
+    let init = params.take_number("initialCheckpoint");
+    Ok(Expr::Topic {
+        checkpoints,
+        collection,
+        id,
+        q,
+        q_text,
+        fl,
+        init,
+    })
+}
+
+fn update(alloc: Global, mut params: Params, inputs: Exprs) -> Result<Expr, Memory>
+    requires { length inputs.items ≡ 1 }
+    ensures { IfOk result (λ e. expr_tree e
+        ≡ node (operator_of Function.Update (walked params)) (inputs_of (map expr_tree inputs.items))) }
+{
+    let input = only(alloc, inputs)?;
+    let dest = params.take_text(alloc, "destination")?;
+    let batch_size = params.take_count_or("batchSize", 250);
+    Ok(Expr::Update {
+        input,
+        dest,
+        batch_size,
+    })
+}
+
+fn commit(alloc: Global, mut params: Params, inputs: Exprs) -> Result<Expr, Memory>
+    requires { length inputs.items ≡ 1 }
+    ensures { IfOk result (λ e. expr_tree e
+        ≡ node (operator_of Function.Commit (walked params)) (inputs_of (map expr_tree inputs.items))) }
+{
+    let input = only(alloc, inputs)?;
+    let dest = params.take_text(alloc, "destination")?;
+    let batch_size = params.take_number("batchSize");
+    Ok(Expr::Commit {
+        input,
+        dest,
+        batch_size,
+    })
+}
+
+fn daemon(alloc: Global, mut params: Params, inputs: Exprs) -> Result<Expr, Memory>
+    requires { length inputs.items ≡ 1 }
+    ensures { IfOk result (λ e. expr_tree e
+        ≡ node (operator_of Function.Daemon (walked params)) (inputs_of (map expr_tree inputs.items))) }
+{
+    let input = only(alloc, inputs)?;
+    let id = params.take_text(alloc, "id")?;
+    let interval = params.take_count_or("runInterval", 1000);
+    let terminate = params.take_flag("terminate");
+    Ok(Expr::Daemon {
+        input,
+        id,
+        interval,
+        terminate,
+    })
+}
+
 /// The expression of a function with these parameters and inputs.
 pub(crate) fn expression(
     alloc: Global,
@@ -261,5 +347,10 @@ pub(crate) fn expression(
         Function::Complement => complement(alloc, params, inputs),
         Function::HashJoin => hash_join(alloc, params, inputs),
         Function::OuterHashJoin => outer_hash_join(alloc, params, inputs),
+        Function::Parallel => parallel(alloc, params, inputs),
+        Function::Topic => topic(alloc, params),
+        Function::Update => update(alloc, params, inputs),
+        Function::Commit => commit(alloc, params, inputs),
+        Function::Daemon => daemon(alloc, params, inputs),
     }
 }

@@ -6,7 +6,8 @@ ghost use Rattle.expr_plan.specs.Given.{first_absent};
 ghost use Rattle.expr_plan.specs.TableViews.{key_shape};
 
 use crate::param::Params;
-use crate::row::{FUNCTIONS, Function, Helpers, Inputs, Key, Shape, row_of};
+use crate::row::{FUNCTIONS, Function, Helpers, Inputs, Key, Shape};
+use crate::table::row_of;
 
 /// The function of a name.
 pub(crate) fn function_of(name: &str) -> Option<Function>
@@ -121,7 +122,12 @@ fn is_input_shape(shape: Shape) -> bool
         | Shape::Sort
         | Shape::Pairs
         | Shape::Query
-        | Shape::Number { .. } => false,
+        | Shape::KeptQuery
+        | Shape::Number { .. }
+        | Shape::Small { .. }
+        | Shape::Id
+        | Shape::Flag
+        | Shape::True => false,
     }
 }
 

@@ -14,6 +14,7 @@ mod param;
 mod planning;
 mod reading;
 mod row;
+mod table;
 #[cfg(test)]
 mod tests;
 mod walk;

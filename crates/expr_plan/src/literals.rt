@@ -1,6 +1,6 @@
 // Literals and numbers that words are read as.
 ghost use Rattle.std.specs.Prelude.{◌≡◌, IfOk};
-ghost use Rattle.expr_plan.specs.Literals.{literal, literal_or_null, within};
+ghost use Rattle.expr_plan.specs.Literals.{literal, literal_or_null, within, flag_of};
 
 use expr_reader::Word;
 use std::alloc::Global;
@@ -36,5 +36,35 @@ pub(crate) fn within(low: u64, high: u64, number: Option<i64>) -> Option<u64>
             if low <= n && n <= high { Some(n) } else { None }
         }
         _ => None,
+    }
+}
+
+/// The number of 16 bits, where it is within the limits.
+pub(crate) fn within_small(low: u16, high: u16, number: Option<i64>) -> Option<u16>
+    ensures { result ≡ within low high number }
+{
+    match number {
+        Some(n) if n >= 0 => {
+            let n = n as u64;
+            if u64::from(low) <= n && n <= u64::from(high) {
+                Some(n as u16)
+            } else {
+                None
+            }
+        }
+        _ => None,
+    }
+}
+
+/// What `true` or `false` says; none for another text.
+pub(crate) fn flag_of(text: &str) -> Option<bool>
+    ensures { result ≡ flag_of text.now }
+{
+    if text == "true" {
+        Some(true)
+    } else if text == "false" {
+        Some(false)
+    } else {
+        None
     }
 }

@@ -1,7 +1,7 @@
 // What the arguments of a call give.
-ghost use Rattle.std.specs.Prelude.{◌≡◌, ◌++◌, ◌∷◌, [], OnOk, OnErr, IfOk, Some, None};
+ghost use Rattle.std.specs.Prelude.{◌≡◌, ◌++◌, ◌∷◌, [], OnOk, OnErr, IfOk, MatchOption, Some, None};
 ghost use Rattle.std.specs.List.{cons_option};
-ghost use Rattle.expr_plan.specs.Given.{is_given, param_at, taken, text_in, names_in, sort_in, pairs_in, query_in, number_in, count_in, group_in, item_in, metric_of_param, metric_in, items_in, metrics_in, names_maybe};
+ghost use Rattle.expr_plan.specs.Given.{is_given, param_at, taken, text_in, names_in, sort_in, pairs_in, query_in, kept_query_in, kept_text_in, number_in, count_or, small_in, flag_in, group_in, item_in, metric_of_param, metric_in, items_in, metrics_in, names_maybe};
 
 use crate::{Condition, GroupOp, Item, Items, Metric, Metrics};
 use query_syntax::{Clauses, Query};
@@ -21,7 +21,11 @@ pub enum Param {
     Sort(SortSpec),
     Pairs(OnSpec),
     Query(Query),
+    /// A query with its text.
+    KeptQuery(Query, Text),
     Number(u64),
+    Small(u16),
+    Flag(bool),
     Item(Item),
     Metric(Metric),
     Group(GroupOp),
@@ -107,9 +111,9 @@ impl Params {
             ≡ text_in (param_at name.now self.old.items.items)) }
         ensures rest { self.new.items.items ≡ taken name.now self.old.items.items }
     {
-        match self.take(name) {
-            Param::Plain(text) => Ok(text),
-            _ => Text::of(alloc, ""),
+        match text_of(self.take(name)) {
+            Some(text) => Ok(text),
+            None => Text::of(alloc, ""),
         }
     }
 
@@ -170,6 +174,25 @@ impl Params {
         }
     }
 
+    /// Takes out a query with its text; that of no clause where there is none.
+    pub fn take_kept_query(&mut self, alloc: Global, name: &str) -> Result<(Query, Text), Memory>
+        ensures query { IfOk result (λ both. both.0.clauses
+            ≡ kept_query_in (param_at name.now self.old.items.items)) }
+        ensures text { IfOk result (λ both. both.1
+            ≡ kept_text_in (param_at name.now self.old.items.items)) }
+        ensures rest { self.new.items.items ≡ taken name.now self.old.items.items }
+    {
+        match kept_of(self.take(name)) {
+            Some(kept) => Ok(kept),
+            None => {
+                let query = Query {
+                    clauses: Clauses::new(alloc),
+                };
+                Ok((query, Text::of(alloc, "")?))
+            }
+        }
+    }
+
     /// Takes out a number, if there is one.
     pub fn take_number(&mut self, name: &str) -> Option<u64>
         ensures value { result ≡ number_in (param_at name.now self.old.items.items) }
@@ -181,14 +204,36 @@ impl Params {
         }
     }
 
-    /// Takes out a count; 0 where there is none.
-    pub fn take_count(&mut self, name: &str) -> u64
-        ensures value { result ≡ count_in (param_at name.now self.old.items.items) }
+    /// Takes out a number; another one where there is none.
+    pub fn take_count_or(&mut self, name: &str, other: u64) -> u64
+        ensures value { result ≡ count_or other (param_at name.now self.old.items.items) }
         ensures rest { self.new.items.items ≡ taken name.now self.old.items.items }
     {
         match self.take(name) {
             Param::Number(n) => n,
+            _ => other,
+        }
+    }
+
+    /// Takes out a number of 16 bits; 0 where there is none.
+    pub fn take_small(&mut self, name: &str) -> u16
+        ensures value { result ≡ small_in (param_at name.now self.old.items.items) }
+        ensures rest { self.new.items.items ≡ taken name.now self.old.items.items }
+    {
+        match self.take(name) {
+            Param::Small(n) => n,
             _ => 0,
+        }
+    }
+
+    /// Takes out what a flag says; that it isn't so where there is none.
+    pub fn take_flag(&mut self, name: &str) -> bool
+        ensures value { result ≡ flag_in (param_at name.now self.old.items.items) }
+        ensures rest { self.new.items.items ≡ taken name.now self.old.items.items }
+    {
+        match self.take(name) {
+            Param::Flag(flag) => flag,
+            _ => false,
         }
     }
 
@@ -251,6 +296,27 @@ fn take(items: &mut [Given], name: &str) -> Param
                 take(rest, name)
             }
         }
+    }
+}
+
+fn text_of(param: Param) -> Option<Text>
+    ensures { MatchOption result (text_in param ≡ []) (λ text. text ≡ text_in param) }
+{
+    match param {
+        Param::Plain(text) => Some(text),
+        _ => None,
+    }
+}
+
+fn kept_of(param: Param) -> Option<(Query, Text)>
+    ensures query { MatchOption result (kept_query_in param ≡ [])
+        (λ both. both.0.clauses ≡ kept_query_in param) }
+    ensures text { MatchOption result (kept_text_in param ≡ [])
+        (λ both. both.1 ≡ kept_text_in param) }
+{
+    match param {
+        Param::KeptQuery(query, text) => Some((query, text)),
+        _ => None,
     }
 }
 

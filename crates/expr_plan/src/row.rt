@@ -1,9 +1,4 @@
-// The functions that are known, a row for each.
-ghost use Rattle.std.specs.Prelude.{◌≡◌};
-ghost use Rattle.expr_plan.specs.Table.{row_of};
-ghost use Rattle.expr_plan.specs.TableViews.{function_row};
-
-use crate::groups::COUNT_LIMIT;
+// The functions that are known, and what their rows say.
 
 /// A function of expressions.
 #[derive(Clone, Copy, Debug, PartialEq, Eq)]
@@ -24,10 +19,15 @@ pub enum Function {
     Complement,
     HashJoin,
     OuterHashJoin,
+    Parallel,
+    Topic,
+    Update,
+    Commit,
+    Daemon,
 }
 
 /// Each function, in the order of the table.
-pub(crate) const FUNCTIONS: [Function; 16] = [
+pub(crate) const FUNCTIONS: [Function; 21] = [
     Function::Search,
     Function::Tuple,
     Function::Select,
@@ -44,6 +44,11 @@ pub(crate) const FUNCTIONS: [Function; 16] = [
     Function::Complement,
     Function::HashJoin,
     Function::OuterHashJoin,
+    Function::Parallel,
+    Function::Topic,
+    Function::Update,
+    Function::Commit,
+    Function::Daemon,
 ];
 
 /// What the value under a key is to be.
@@ -61,8 +66,18 @@ pub enum Shape {
     /// Pairs of fields.
     Pairs,
     Query,
+    /// A query, whose text is kept, too.
+    KeptQuery,
     /// A whole number within these limits.
     Number { low: u64, high: u64 },
+    /// A whole number within these limits, of 16 bits.
+    Small { low: u16, high: u16 },
+    /// A text of 1 to 128 bytes.
+    Id,
+    /// `true` or `false`.
+    Flag,
+    /// `true` alone, which changes nothing.
+    True,
     /// A call, which is the function's last input.
     Input,
 }
@@ -112,206 +127,4 @@ pub struct Row {
     pub(crate) optional: &'static [Key],
     /// What the value under any further key is to be; none where there is no other.
     pub(crate) others: Option<Shape>,
-}
-
-const ROWS: Shape = Shape::Number {
-    low: 0,
-    high: i64::MAX as u64,
-};
-
-const COUNT: Shape = Shape::Number {
-    low: 1,
-    high: COUNT_LIMIT,
-};
-
-const SEARCH: Row = Row {
-    name: "search",
-    inputs: Inputs::Exactly(0),
-    operands: &["collection"],
-    helpers: Helpers::Nothing,
-    mandatory: &[
-        Key("q", Shape::Query),
-        Key("fl", Shape::FieldNames),
-        Key("sort", Shape::Sort),
-    ],
-    optional: &[
-        Key("rows", ROWS),
-        Key("qt", Shape::Anything),
-        Key("partitionKeys", Shape::Names),
-    ],
-    others: None,
-};
-
-const TUPLE: Row = Row {
-    name: "tuple",
-    inputs: Inputs::Exactly(0),
-    operands: &[],
-    helpers: Helpers::Nothing,
-    mandatory: &[],
-    optional: &[],
-    others: Some(Shape::Literal),
-};
-
-const SELECT: Row = Row {
-    name: "select",
-    inputs: Inputs::Exactly(1),
-    operands: &[],
-    helpers: Helpers::Items,
-    mandatory: &[],
-    optional: &[],
-    others: None,
-};
-
-const HAVING: Row = Row {
-    name: "having",
-    inputs: Inputs::Exactly(1),
-    operands: &[],
-    helpers: Helpers::Condition,
-    mandatory: &[],
-    optional: &[],
-    others: None,
-};
-
-const SORT: Row = Row {
-    name: "sort",
-    inputs: Inputs::Exactly(1),
-    operands: &[],
-    helpers: Helpers::Nothing,
-    mandatory: &[Key("by", Shape::Sort)],
-    optional: &[],
-    others: None,
-};
-
-const TOP: Row = Row {
-    name: "top",
-    inputs: Inputs::Exactly(1),
-    operands: &[],
-    helpers: Helpers::Nothing,
-    mandatory: &[Key("n", COUNT), Key("sort", Shape::Sort)],
-    optional: &[],
-    others: None,
-};
-
-const UNIQUE: Row = Row {
-    name: "unique",
-    inputs: Inputs::Exactly(1),
-    operands: &[],
-    helpers: Helpers::Nothing,
-    mandatory: &[Key("over", Shape::Names)],
-    optional: &[],
-    others: None,
-};
-
-const MERGE: Row = Row {
-    name: "merge",
-    inputs: Inputs::AtLeast(2),
-    operands: &[],
-    helpers: Helpers::Nothing,
-    mandatory: &[Key("on", Shape::Sort)],
-    optional: &[],
-    others: None,
-};
-
-const REDUCE: Row = Row {
-    name: "reduce",
-    inputs: Inputs::Exactly(1),
-    operands: &[],
-    helpers: Helpers::Group,
-    mandatory: &[Key("by", Shape::Names)],
-    optional: &[],
-    others: None,
-};
-
-const ROLLUP: Row = Row {
-    name: "rollup",
-    inputs: Inputs::Exactly(1),
-    operands: &[],
-    helpers: Helpers::Metrics,
-    mandatory: &[Key("over", Shape::Names)],
-    optional: &[],
-    others: None,
-};
-
-const INNER_JOIN: Row = Row {
-    name: "innerJoin",
-    inputs: Inputs::Exactly(2),
-    operands: &[],
-    helpers: Helpers::Nothing,
-    mandatory: &[Key("on", Shape::Pairs)],
-    optional: &[],
-    others: None,
-};
-
-const LEFT_OUTER_JOIN: Row = Row {
-    name: "leftOuterJoin",
-    inputs: Inputs::Exactly(2),
-    operands: &[],
-    helpers: Helpers::Nothing,
-    mandatory: &[Key("on", Shape::Pairs)],
-    optional: &[],
-    others: None,
-};
-
-const INTERSECT: Row = Row {
-    name: "intersect",
-    inputs: Inputs::Exactly(2),
-    operands: &[],
-    helpers: Helpers::Nothing,
-    mandatory: &[Key("on", Shape::Pairs)],
-    optional: &[],
-    others: None,
-};
-
-const COMPLEMENT: Row = Row {
-    name: "complement",
-    inputs: Inputs::Exactly(2),
-    operands: &[],
-    helpers: Helpers::Nothing,
-    mandatory: &[Key("on", Shape::Pairs)],
-    optional: &[],
-    others: None,
-};
-
-const HASH_JOIN: Row = Row {
-    name: "hashJoin",
-    inputs: Inputs::Exactly(1),
-    operands: &[],
-    helpers: Helpers::Nothing,
-    mandatory: &[Key("hashed", Shape::Input), Key("on", Shape::Pairs)],
-    optional: &[],
-    others: None,
-};
-
-const OUTER_HASH_JOIN: Row = Row {
-    name: "outerHashJoin",
-    inputs: Inputs::Exactly(1),
-    operands: &[],
-    helpers: Helpers::Nothing,
-    mandatory: &[Key("hashed", Shape::Input), Key("on", Shape::Pairs)],
-    optional: &[],
-    others: None,
-};
-
-/// The row of a function.
-pub(crate) fn row_of(function: Function) -> Row
-    ensures { function_row result ≡ row_of function }
-{
-    match function {
-        Function::Search => SEARCH,
-        Function::Tuple => TUPLE,
-        Function::Select => SELECT,
-        Function::Having => HAVING,
-        Function::Sort => SORT,
-        Function::Top => TOP,
-        Function::Unique => UNIQUE,
-        Function::Merge => MERGE,
-        Function::Reduce => REDUCE,
-        Function::Rollup => ROLLUP,
-        Function::InnerJoin => INNER_JOIN,
-        Function::LeftOuterJoin => LEFT_OUTER_JOIN,
-        Function::Intersect => INTERSECT,
-        Function::Complement => COMPLEMENT,
-        Function::HashJoin => HASH_JOIN,
-        Function::OuterHashJoin => OUTER_HASH_JOIN,
-    }
 }

@@ -135,7 +135,12 @@ fn may_be_call(shape: Shape) -> bool
         | Shape::Sort
         | Shape::Pairs
         | Shape::Query
-        | Shape::Number { .. } => false,
+        | Shape::KeptQuery
+        | Shape::Number { .. }
+        | Shape::Small { .. }
+        | Shape::Id
+        | Shape::Flag
+        | Shape::True => false,
     }
 }
 

@@ -11,17 +11,17 @@ use Rattle.expr_plan.proofs.building.top.Goals as goal
 pub returns : goal.returns
 returns c =
     let before = c.args.params.items.items in
-    let after = c.take_count-n.new.self.items.items in
+    let after = c.take_count_or-n.new.self.items.items in
     let stays : sort_in (param_at (codes "sort") after) ≡ sort_in (param_at (codes "sort") before) =
     ap sort_in (param_at-stays (codes "sort") (codes "n") before after
-    c.take_count-n.ensures.rest refl) in
+    c.take_count_or-n.ensures.rest refl) in
     ap expr_tree
-    (sym (expr.rolls-Top c.in_ok-input.input c.take_count-n.result c.take_sort-sort.result))
+    (sym (expr.rolls-Top c.in_ok-input.input c.take_count_or-n.result c.take_sort-sort.result))
     ∙ fold-roll-Expr ExprTree expr_step
-    (Expr-F.Top c.in_ok-input.input c.take_count-n.result c.take_sort-sort.result)
+    (Expr-F.Top c.in_ok-input.input c.take_count_or-n.result c.take_sort-sort.result)
     ∙ rw (
       c.in_ok-input.ensures,
-      c.take_count-n.ensures.value,
+      c.take_count_or-n.ensures.value,
       c.take_sort-sort.ensures.value,
       stays,
     ) refl

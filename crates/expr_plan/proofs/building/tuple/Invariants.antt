@@ -1,5 +1,5 @@
 use Rattle.std.proofs.Common.{◌≡◌, []}
-use Rattle.expr_plan.specs.Table.{with_fields}
+use Rattle.expr_plan.specs.Operators.{with_fields}
 use Rattle.expr_plan.proofs.building.tuple.Given as goal
 
 -- the fields are those of the parameters so far

@@ -8,7 +8,7 @@ use Rattle.expr_reader.specs.Views.{arg_tree, call_tree}
 use Rattle.expr_types.specs.ExprTree.{ExprTree, node, inputs_of, expr_tree}
 use Rattle.expr_plan.specs.Arguments.{walked}
 use Rattle.expr_plan.specs.Functions.{function_of, takes_all}
-use Rattle.expr_plan.specs.Table.{operator_of}
+use Rattle.expr_plan.specs.Operators.{operator_of}
 use Rattle.expr_plan.specs.Walk.{inputs_planned}
 use Rattle.expr_plan.proofs.InputLemmas.{behind, exprs-push, input_read, input_refused}
 use Rattle.expr_plan.proofs.PlannedLemmas.{planned_is, all_width}
