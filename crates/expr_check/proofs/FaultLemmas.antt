@@ -22,7 +22,6 @@ use Rattle.expr_check.specs.Walk.{own_at, fault_at, fault_where, faults_where, o
 use Rattle.expr_check.specs.Walk.{named_in, all_named}
 use Rattle.expr_check.proofs.NeedLemmas.{and_first, and_second}
 use Rattle.expr_check.specs.declared.order.Order.{Order}
-use Rattle.expr_check.specs.declared.fault.CheckFault.{CheckFault}
 use Rattle.expr_check.specs.declared.roots.Place.{Place}
 use Rattle.expr_check.specs.declared.roots.Roots.{Roots}
 use Rattle.expr_check.specs.declared.roots.Roots.TheVariants.{Plain}
@@ -174,6 +173,15 @@ stands_by : (function : ByteList) (is : Bool) → place_fault function is ≡ No
 stands_by function true e = refl
 stands_by function false e = absurd (cc)
 
+-- an operator without a fault may stand at its place
+pub stands_at : (roots : Roots) (place : Place) (is_there : ByteList → Bool) (op : Operator)
+    (inputs : ExprTrees) → fault_at roots place is_there op inputs ≡ None
+    → stands roots place op ≡ true
+stands_at roots place is_there op inputs e =
+    stands_by (function_name op) (stands roots place op)
+    (none_first (place_fault (function_name op) (stands roots place op))
+    (option_or (unknown_fault (first_unknown is_there (named_by op))) (own_at op inputs)) e)
+
 -- what may stand with plain roots only reads
 plain_stands : (place : Place) (op : Operator) → stands Plain place op ≡ true
     → (rule_of op).is_plain ≡ true
@@ -206,12 +214,8 @@ mutual
   fault_where-plain place is_there (node op inputs) e =
       let here = fault_at Plain place is_there op inputs in
       let below = faults_where Plain (place_in op place) is_there inputs in
-      let unknown = unknown_fault (first_unknown is_there (named_by op)) in
       both (rule_of op).is_plain (are_plain inputs)
-      (plain_stands place op
-      (stands_by (function_name op) (stands Plain place op)
-      (none_first (place_fault (function_name op) (stands Plain place op))
-      (option_or unknown (own_at op inputs)) (none_first here below e))))
+      (plain_stands place op (stands_at Plain place is_there op inputs (none_first here below e)))
       (faults_where-plain (place_in op place) is_there inputs (none_second here below e))
 
   -- and so do inputs

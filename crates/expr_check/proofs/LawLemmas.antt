@@ -5,6 +5,7 @@ use Rattle.std.proofs.Common.{Option, Some, None, length, map, filter, refl, sym
 use Rattle.std.proofs.Common.{arith, codes, subst}
 use Rattle.std.specs.Prelude.{bytes_eq, flat_map}
 use Rattle.std.specs.List.{AllByRecursion, list_all}
+use Rattle.std.specs.Option.{option_or}
 use Rattle.tuple_values.specs.Document.{ByteList, Doc, is_named}
 use Rattle.query_syntax.specs.Matching.{matches}
 use Rattle.sort_spec.specs.Sorting.{ins_sort, IsAscending}
@@ -40,16 +41,15 @@ use Rattle.expr_types.specs.declared.item.Metric.{Metric}
 use Rattle.expr_types.proofs.OrderLemmas.{ascends_by_first}
 use Rattle.expr_check.specs.Orders.{IsInOrder, AreInOrder, kept_order, kept_terms, first_terms}
 use Rattle.expr_check.specs.Orders.{directions_of, joined_order}
-use Rattle.expr_check.specs.Rules.{order_given, need_at, itself_at}
+use Rattle.expr_check.specs.Rules.{order_given, need_at, itself_at, parted_at}
 use Rattle.expr_check.specs.Walk.{order_of, orders_of, all_fields, followed_in, own_at}
-use Rattle.expr_check.specs.Walk.{own_fault, own_faults}
-use Rattle.expr_check.specs.Needs.{names_first, meets_sort, meets_names}
+use Rattle.expr_check.specs.Walk.{own_fault, own_faults, keyless_in, all_keys}
+use Rattle.expr_check.specs.Needs.{names_first, meets_names}
 use Rattle.expr_check.specs.Faults.{names_fault, sort_fault, first_fault}
 use Rattle.expr_check.proofs.FaultLemmas.{none_first, none_second, names_met, sort_met, fields_met}
 use Rattle.expr_check.specs.declared.order.Order.{Order}
 use Rattle.expr_check.specs.declared.order.Order.TheVariants.{Any, By}
 use Rattle.expr_check.proofs.NeedLemmas.{and_first, and_second, is_false, same_bytes}
-use Rattle.expr_check.proofs.NeedLemmas.{are_first-prefix}
 use Rattle.expr_check.proofs.AscendLemmas.{ascends_filter, ascends_take, ascends_firsts}
 use Rattle.expr_check.proofs.AscendLemmas.{ascends_map}
 use Rattle.expr_check.proofs.AscendLemmas.{ascends_short, each_of, shorter-filter, shorter-firsts}
@@ -395,9 +395,11 @@ mutual
   holds_of docs (node op inputs) p w e =
       let many = length (expr_list inputs) in
       let orders = orders_of inputs in
+      let parted = parted_at op (keyless_in inputs) (all_keys inputs) in
       let need =
-      none_second (itself_at op (followed_in inputs)) (need_at op orders)
-      (none_first (own_at op inputs) (own_faults inputs) e) in
+      none_first (need_at op orders) parted
+      (none_second (itself_at op (followed_in inputs)) (option_or (need_at op orders) parted)
+      (none_first (own_at op inputs) (own_faults inputs) e)) in
       let h = hold_all docs inputs (and_second (rule_of op).is_plain (are_plain inputs) p) w.1.1
       (none_second (own_at op inputs) (own_faults inputs) e) in (
         (h.0, needs_hold op many orders (lists_of docs inputs) w.0 need h.1),

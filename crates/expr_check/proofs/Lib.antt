@@ -2,6 +2,7 @@ pub mod NeedLemmas
 pub mod TextLemmas
 pub mod WalkLemmas
 pub mod ReadLemmas
+pub mod PartitionLemmas
 pub mod FaultLemmas
 pub mod AscendLemmas
 pub mod AgreeLemmas
@@ -11,4 +12,5 @@ pub mod PairLemmas
 pub mod FieldLemmas
 pub mod JoinLemmas
 pub mod LawLemmas
+pub mod HoldLemmas
 pub mod SendLemmas

@@ -5,12 +5,11 @@ use Rattle.tuple_values.proofs.value.Tuple.TheLaws.TheKnot as tuples
 use Rattle.query_syntax.proofs.query.Clauses.TheLaws.TheKnot as clauses
 use Rattle.expr_types.proofs.condition.Condition.TheLaws.TheKnot as conditions
 use Rattle.expr_types.proofs.expr.Expr.TheLaws.TheKnot as exprs
+use Rattle.expr_check.proofs.checked.Checked.TheLaws.TheKnot as checked
 use Rattle.tuple_values.specs.contracts.text.Text as Text
 use Rattle.tuple_values.specs.contracts.value.Tuple as Tuple
 use Rattle.tuple_values.specs.contracts.value.Value as Value
 use Rattle.query_syntax.specs.contracts.query.Query as Query
-use Rattle.sort_spec.specs.contracts.term.SortTerm as SortTerm
-use Rattle.sort_spec.specs.contracts.pair.OnPair as OnPair
 use Rattle.expr_types.specs.contracts.condition.Condition as Condition
 use Rattle.expr_types.specs.contracts.item.Item as Item
 use Rattle.expr_types.specs.contracts.item.Metric as Metric
@@ -51,13 +50,40 @@ order_send = search (heap.crosses, sendable) depth 60 fits 20000
 -- so may the expression
 expr_send : IsSend Expr.the_row
 expr_send =
-    search (exprs.crosses, tuples.crosses, clauses.crosses, conditions.crosses, text_send,
-    tuple_send, query_send, condition_send, item_send, metric_send, group_send, heap.crosses,
-    sendable) depth 60 fits 20000
+    search (
+      exprs.crosses,
+      tuples.crosses,
+      clauses.crosses,
+      conditions.crosses,
+      text_send,
+      tuple_send,
+      query_send,
+      condition_send,
+      item_send,
+      metric_send,
+      group_send,
+      heap.crosses,
+      sendable,
+    ) depth 60 fits 20000
 
 -- and what is kept of it
 pub checked_send : IsSend Checked.the_row
 checked_send =
-    search (exprs.crosses, tuples.crosses, clauses.crosses, conditions.crosses, text_send,
-    tuple_send, query_send, condition_send, item_send, metric_send, group_send, expr_send,
-    order_send, heap.crosses, sendable) depth 60 fits 20000
+    search (
+      checked.crosses,
+      exprs.crosses,
+      tuples.crosses,
+      clauses.crosses,
+      conditions.crosses,
+      text_send,
+      tuple_send,
+      query_send,
+      condition_send,
+      item_send,
+      metric_send,
+      group_send,
+      expr_send,
+      order_send,
+      heap.crosses,
+      sendable,
+    ) depth 60 fits 20000

@@ -8,8 +8,10 @@ use Rattle.tuple_values.specs.Document.{ByteList}
 use Rattle.expr_types.specs.ExprTree.{ExprTree, ExprTrees, an_expr, inputs_of, inputs_in}
 use Rattle.expr_types.specs.ExprTree.{operator_in}
 use Rattle.expr_types.proofs.TreeLemmas.{node-parts}
-use Rattle.expr_check.specs.Rules.{order_given, fields_given, place_in}
+use Rattle.expr_types.specs.Names.{function_name}
+use Rattle.expr_check.specs.Rules.{order_given, fields_given, keys_given, place_in}
 use Rattle.expr_check.specs.Walk.{order_of, orders_of, fields_of, all_fields}
+use Rattle.expr_check.specs.Walk.{keys_of, all_keys, keyless_of, keyless_in, unkeyed}
 use Rattle.expr_check.specs.Walk.{fault_at, fault_where, faults_where}
 use Rattle.expr_check.specs.declared.fault.CheckFault.{CheckFault}
 use Rattle.expr_check.specs.declared.roots.Place.{Place}
@@ -41,6 +43,24 @@ order_of-parts t = ap order_of (sym (node-parts t))
 pub fields_of-parts : (t : ExprTree)
     → fields_of t ≡ fields_given (operator_in t) (all_fields (inputs_of (inputs_in t)))
 fields_of-parts t = ap fields_of (sym (node-parts t))
+
+-- its keys are those of its operator over the fields and keys of its inputs
+pub keys_of-parts : (t : ExprTree)
+    → keys_of t ≡ keys_given (operator_in t) (all_fields (inputs_of (inputs_in t)))
+    (all_keys (inputs_of (inputs_in t)))
+keys_of-parts t = ap keys_of (sym (node-parts t))
+
+-- its first function without keys is that of its inputs, or else its own
+pub keyless_of-parts : (t : ExprTree)
+    → keyless_of t
+    ≡ option_or (keyless_in (inputs_of (inputs_in t)))
+    (unkeyed (function_name (operator_in t)) (keys_of t))
+keyless_of-parts t =
+    ap keyless_of (sym (node-parts t))
+    ∙ ap
+    (λ (keys : Option (List ByteList)).
+    option_or (keyless_in (inputs_of (inputs_in t))) (unkeyed (function_name (operator_in t)) keys))
+    (sym (keys_of-parts t))
 
 -- its first fault is that of its operator at its place, or else that of its inputs
 pub fault_where-parts : (roots : Roots) (place : Place) (is_there : ByteList → Bool) (t : ExprTree)
@@ -81,6 +101,23 @@ inputs_more one each first exprs k e so_far more lt is found all =
     ∙ first (get_or exprs k e) (inputs_of (drop (k + 1) exprs))))
     ∙ all
 
+-- the first of each input so far or of one more, or else of those to come, is that of all
+pub firsts_more : {X : Type 0} (one : ExprTree → Option X) (each : ExprTrees → Option X)
+    → ((e : ExprTree) (exprs : ExprTrees) → each (an_expr e exprs) ≡ option_or (one e) (each exprs))
+    → (exprs : List ExprTree) (k : ℕ) (e : ExprTree) (so_far more : Option X)
+    → k < length exprs → e ≡ get_or exprs k e → more ≡ one e
+    → option_or so_far (each (inputs_of (drop k exprs))) ≡ each (inputs_of exprs)
+    → option_or (option_or so_far more) (each (inputs_of (drop (k + 1) exprs)))
+    ≡ each (inputs_of exprs)
+firsts_more one each first exprs k e so_far more lt is found all =
+    let rest = each (inputs_of (drop (k + 1) exprs)) in
+    option_or-assoc so_far more rest
+    ∙ ap (option_or so_far)
+    (ap (λ x. option_or x rest) (found ∙ ap one is)
+    ∙ sym (at_drop_more (λ r. each (inputs_of r)) exprs k e lt
+    ∙ first (get_or exprs k e) (inputs_of (drop (k + 1) exprs))))
+    ∙ all
+
 -- the first fault so far or of one more, or else of those to come, is that of all
 pub faults_more : (roots : Roots) (place : Place) (is_there : ByteList → Bool)
     (exprs : List ExprTree) (k : ℕ) (e : ExprTree) (so_far more : Option CheckFault)
@@ -91,9 +128,5 @@ pub faults_more : (roots : Roots) (place : Place) (is_there : ByteList → Bool)
     (faults_where roots place is_there (inputs_of (drop (k + 1) exprs)))
     ≡ faults_where roots place is_there (inputs_of exprs)
 faults_more roots place is_there exprs k e so_far more lt is fault all =
-    let rest = faults_where roots place is_there (inputs_of (drop (k + 1) exprs)) in
-    option_or-assoc so_far more rest
-    ∙ ap (option_or so_far)
-    (ap (λ x. option_or x rest) (fault ∙ ap (fault_where roots place is_there) is)
-    ∙ sym (at_drop_more (λ r. faults_where roots place is_there (inputs_of r)) exprs k e lt))
-    ∙ all
+    firsts_more (fault_where roots place is_there) (faults_where roots place is_there)
+    (λ t ts. refl) exprs k e so_far more lt is fault all

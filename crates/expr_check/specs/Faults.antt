@@ -13,6 +13,7 @@ use Rattle.expr_types.specs.Joins.{left_names, right_names}
 use Rattle.expr_types.specs.Orders.{sort_over}
 use Rattle.expr_check.specs.Orders.{directions}
 use Rattle.expr_check.specs.Needs.{meets_sort, meets_names}
+use Rattle.expr_check.specs.Partitions.{holds_keys}
 use Rattle.expr_check.specs.declared.order.Order.{Order}
 use Rattle.expr_check.specs.declared.order.Order.TheVariants.{Any, By}
 use Rattle.expr_check.specs.declared.fault.CheckFault.{CheckFault}
@@ -104,6 +105,18 @@ abbrev pub join_fault : ByteList → List OnPair → List Order → Option Check
 join_fault function on orders =
     option_or (names_fault function (left_names on) (first_or Any orders))
     (right_fault function on (first_or Any orders) (second_or Any orders))
+
+-- the fault of a parallel whose sort holds the keys of its input, or not
+abbrev pub sort_keys_fault : Bool → Option CheckFault
+sort_keys_fault true = None
+sort_keys_fault false = Some (NotPartitioned (codes "parallel"))
+
+-- the fault of a parallel by this sort over an input with these keys, of which this is the first
+-- function without keys
+abbrev pub parted_fault : List SortTerm → Option ByteList → Option (List ByteList)
+    → Option CheckFault
+parted_fault by (Some function) keys = Some (NotPartitioned function)
+parted_fault by None keys = sort_keys_fault (holds_keys by keys)
 
 -- the first fault of several things, by the fault that each has
 abbrev pub first_fault : {X : Type 0} → (X → Option CheckFault) → List X → Option CheckFault

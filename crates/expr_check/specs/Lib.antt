@@ -1,10 +1,17 @@
 pub mod Fields
 pub mod Orders
 pub mod Needs
+pub mod Partitions
 pub mod Faults
 pub mod Places
 pub mod Reads
+pub mod Splits
+pub mod Rows
 pub mod Rules
 pub mod Walk
+pub mod Parts
+pub mod Walked
 pub mod Views
+pub mod Held
+pub mod Lower
 pub mod Law

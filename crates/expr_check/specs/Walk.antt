@@ -1,6 +1,6 @@
--- What is so of a whole expression: its order, its fields, its first fault, a call before its
+-- What is so of a whole expression: its order, its fields, its keys, its first fault, a call before its
 -- inputs and inputs from the left to the right, and its collections (own).
-use Rattle.std.specs.Prelude.{List, [], ◌∷◌, ◌++◌, Bool, Option, None}
+use Rattle.std.specs.Prelude.{List, [], ◌∷◌, ◌++◌, Bool, Option, Some, None}
 use Rattle.std.specs.Option.{option_or}
 use Rattle.tuple_values.specs.Collections.{is_known}
 use Rattle.tuple_values.specs.Document.{ByteList}
@@ -12,7 +12,7 @@ use Rattle.expr_types.specs.Names.{function_name}
 use Rattle.expr_check.specs.Faults.{place_fault, first_unknown, unknown_fault}
 use Rattle.expr_check.specs.Places.{at_root}
 use Rattle.expr_check.specs.Rules.{order_given, fields_given, need_at, itself_at, followed_by}
-use Rattle.expr_check.specs.Rules.{read_by, named_by, stands, place_in}
+use Rattle.expr_check.specs.Rules.{keys_given, parted_at, read_by, named_by, stands, place_in}
 use Rattle.expr_check.specs.declared.order.Order.{Order}
 use Rattle.expr_check.specs.declared.fault.CheckFault.{CheckFault}
 use Rattle.expr_check.specs.declared.roots.Place.{Place}
@@ -38,6 +38,33 @@ abbrev mutual
   orders_of no_exprs = []
   orders_of (an_expr e exprs) = order_of e ∷ orders_of exprs
 
+-- the fields of an expression's tuples that carry the keys of its partitions
+abbrev mutual
+  pub keys_of : ExprTree → Option (List ByteList)
+  keys_of (node op inputs) = keys_given op (all_fields inputs) (all_keys inputs)
+
+  -- those of inputs
+  pub all_keys : ExprTrees → List (Option (List ByteList))
+  all_keys no_exprs = []
+  all_keys (an_expr e exprs) = keys_of e ∷ all_keys exprs
+
+-- a function, where it gives no keys
+abbrev pub unkeyed : ByteList → Option (List ByteList) → Option ByteList
+unkeyed function None = Some function
+unkeyed function (Some keys) = None
+
+-- the first function without keys, inputs before the call, inputs from the left to the right
+abbrev mutual
+  pub keyless_of : ExprTree → Option ByteList
+  keyless_of (node op inputs) =
+      option_or (keyless_in inputs)
+      (unkeyed (function_name op) (keys_given op (all_fields inputs) (all_keys inputs)))
+
+  -- that of inputs
+  pub keyless_in : ExprTrees → Option ByteList
+  keyless_in no_exprs = None
+  keyless_in (an_expr e exprs) = option_or (keyless_of e) (keyless_in exprs)
+
 -- the collection that the first input follows as a topic
 abbrev pub followed_in : ExprTrees → Option ByteList
 followed_in no_exprs = None
@@ -46,7 +73,9 @@ followed_in (an_expr e exprs) = followed_by (operator_in e)
 -- the fault of an operator over these inputs, wherever it stands and whatever is there
 abbrev pub own_at : Operator → ExprTrees → Option CheckFault
 own_at op inputs =
-    option_or (itself_at op (followed_in inputs)) (need_at op (orders_of inputs))
+    option_or (itself_at op (followed_in inputs))
+    (option_or (need_at op (orders_of inputs))
+    (parted_at op (keyless_in inputs) (all_keys inputs)))
 
 -- the fault of an operator over these inputs at a place, where these collections are there
 abbrev pub fault_at : Roots → Place → (ByteList → Bool) → Operator → ExprTrees

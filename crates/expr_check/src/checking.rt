@@ -12,7 +12,8 @@ ghost use Rattle.expr_check.specs.declared.fault.CheckFault.TheVariants.{OutOfMe
 ghost use Rattle.expr_check.specs.declared.roots.Roots.TheVariants.{Plain};
 
 use crate::standing::at_root;
-use crate::walk::{Walked, walk};
+use crate::walk::walk;
+use crate::walked::Walked;
 use crate::{CheckFault, Checked, Roots};
 use expr_types::Expr;
 use std::alloc::Global;
@@ -43,10 +44,12 @@ pub fn check(alloc: Global, expr: Expr, names: &Names, roots: Roots) -> Result<C
         fields,
         reads,
         fault,
+        within,
+        ..
     } = walk(alloc, &expr, at_root(), names, roots)?;
     match fault {
         Some(fault) => Err(fault),
-        None => Ok(Checked::new(expr, order, fields, reads)),
+        None => Ok(Checked::new(expr, order, fields, reads, within)),
     }
 }
 

@@ -4,13 +4,16 @@ ghost use Rattle.tuple_values.specs.Collections.{is_known};
 ghost use Rattle.expr_types.specs.ExprTree.{expr_tree, inputs_in, inputs_of, operator_in};
 ghost use Rattle.expr_check.specs.Faults.{place_fault, itself_fault, unknown_fault};
 ghost use Rattle.expr_check.specs.Rules.{itself_at};
-ghost use Rattle.expr_check.specs.Walk.{fault_at, own_at, followed_in, orders_of};
+ghost use Rattle.expr_check.specs.Walk.{fault_at, own_at, followed_in};
+ghost use Rattle.expr_check.specs.Walked.{AreWalked};
 
+use crate::keys::parted_at;
 use crate::reads::{first_unknown, followed};
 use crate::roots::Place;
 use crate::rules::need_at;
 use crate::standing::stands;
-use crate::{CheckFault, Order, Roots};
+use crate::walked::WalkedInputs;
+use crate::{CheckFault, Roots};
 use expr_types::Expr;
 use std::alloc::Global;
 use tuple_values::{Memory, Names, Text, TryCopy};
@@ -92,9 +95,9 @@ fn itself_at(alloc: Global, expr: &Expr) -> Result<Option<CheckFault>, Memory>
     }
 }
 
-// The fault of a function over inputs of these orders, wherever it stands.
-fn own_at(alloc: Global, expr: &Expr, orders: &[Order]) -> Result<Option<CheckFault>, Memory>
-    requires { orders.now ≡ orders_of (inputs_of (inputs_in (expr_tree expr.now))) }
+// The fault of a function over its inputs, wherever it stands.
+fn own_at(alloc: Global, expr: &Expr, inputs: &WalkedInputs) -> Result<Option<CheckFault>, Memory>
+    requires { AreWalked inputs.now (expr_tree expr.now) }
     ensures { IfOk result (λ fault. fault ≡ own_at (operator_in (expr_tree expr.now))
         (inputs_of (inputs_in (expr_tree expr.now)))) }
 {
@@ -102,19 +105,23 @@ fn own_at(alloc: Global, expr: &Expr, orders: &[Order]) -> Result<Option<CheckFa
     if fault.is_some() {
         return Ok(fault);
     }
-    need_at(alloc, expr, orders)
+    let fault = need_at(alloc, expr, inputs.orders.as_slice())?;
+    if fault.is_some() {
+        return Ok(fault);
+    }
+    parted_at(alloc, expr, &inputs.keyless, inputs.keys.as_slice())
 }
 
-/// The fault of a function at its place, over inputs of these orders.
+/// The fault of a function at its place, over its inputs.
 pub(crate) fn fault_at(
     alloc: Global,
     expr: &Expr,
-    orders: &[Order],
+    inputs: &WalkedInputs,
     place: Place,
     names: &Names,
     roots: Roots,
 ) -> Result<Option<CheckFault>, Memory>
-    requires { orders.now ≡ orders_of (inputs_of (inputs_in (expr_tree expr.now))) }
+    requires { AreWalked inputs.now (expr_tree expr.now) }
     ensures { IfOk result (λ fault. fault ≡ fault_at roots place (λ name. is_known name names.now)
         (operator_in (expr_tree expr.now)) (inputs_of (inputs_in (expr_tree expr.now)))) }
 {
@@ -126,5 +133,5 @@ pub(crate) fn fault_at(
     if fault.is_some() {
         return Ok(fault);
     }
-    own_at(alloc, expr, orders)
+    own_at(alloc, expr, inputs)
 }

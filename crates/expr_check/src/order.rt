@@ -1,5 +1,7 @@
 // The order in which an expression gives its tuples.
 use sort_spec::SortSpec;
+use std::alloc::Global;
+use tuple_values::{Memory, TryCopy};
 
 /// The order of a list of tuples.
 #[derive(Debug, Drop)]
@@ -8,4 +10,13 @@ pub enum Order {
     Any,
     /// In the order of a sort.
     By(SortSpec),
+}
+
+impl TryCopy for Order {
+    fn copy(&self, alloc: Global) -> Result<Self, Memory> {
+        match self {
+            Order::Any => Ok(Order::Any),
+            Order::By(sort) => Ok(Order::By(sort.copy(alloc)?)),
+        }
+    }
 }

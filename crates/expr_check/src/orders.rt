@@ -19,8 +19,8 @@ fn touches(name: &str, item: &Item) -> bool
     given_name(item).as_str() == name
 }
 
-// Whether just one item gives a value to this name.
-fn is_touched_once(name: &str, items: &[Item]) -> bool
+/// Whether just one item gives a value to this name.
+pub(crate) fn is_touched_once(name: &str, items: &[Item]) -> bool
     ensures { result ≡ is_touched_once name.now items.now }
 {
     let mut touched = false;
@@ -35,8 +35,8 @@ fn is_touched_once(name: &str, items: &[Item]) -> bool
     touched
 }
 
-// The new name of the field by the first item that chooses it.
-fn new_name<'a>(field: &str, items: &'a [Item]) -> Option<&'a Text>
+/// The new name of the field by the first item that chooses it.
+pub(crate) fn new_name<'a>(field: &str, items: &'a [Item]) -> Option<&'a Text>
     ensures { option_map (λ name. name.now) result ≡ new_name field.now items.now }
 {
     for item in items {

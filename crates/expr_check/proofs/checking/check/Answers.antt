@@ -1,5 +1,4 @@
 use Rattle.std.proofs.Common.{◌≡◌, ap, None, sym, subst, ◌∙◌}
-use Rattle.std.specs.Prelude.{is_none}
 use Rattle.tuple_values.specs.Collections.{is_known}
 use Rattle.expr_types.specs.ExprTree.{expr_tree}
 use Rattle.expr_check.specs.Places.{at_root}
@@ -9,20 +8,14 @@ use Rattle.expr_check.specs.declared.roots.Roots.{Roots}
 use Rattle.expr_check.proofs.FaultLemmas.{fault_where-own, fault_where-there, fault_where-plain}
 use Rattle.expr_check.proofs.checking.check.Goals as goal
 
--- the fault that was found is none
-none : (c : goal.In-None) → fault_of c.args.roots c.args.names.now (expr_tree c.args.expr) ≡ None
-none c =
-    ap
-    (λ (p : Place).
-    fault_where c.args.roots p (λ name. is_known name c.args.names.now) (expr_tree c.args.expr))
+pub new-requires-clause-faultless : goal.new-requires-clause-faultless
+new-requires-clause-faultless c =
+    let t = expr_tree c.args.expr in
+    let found : fault_of c.args.roots c.args.names.now t ≡ None =
+    ap (λ (p : Place). fault_where c.args.roots p (λ name. is_known name c.args.names.now) t)
     (sym c.at_root.ensures)
-    ∙ sym c.in_ok-order.ensures.fault ∙ c.in-None.is
-
-pub new-requires-clause-met : goal.new-requires-clause-met
-new-requires-clause-met c =
-    ap is_none
-    (fault_where-own c.args.roots at_root (λ name. is_known name c.args.names.now)
-    (expr_tree c.args.expr) (none c))
+    ∙ sym c.in_ok-order.ensures.fault ∙ c.in-None.is in
+    fault_where-own c.args.roots at_root (λ name. is_known name c.args.names.now) t found
 
 pub returns-in-None-clause-stands : goal.returns-in-None-clause-stands
 returns-in-None-clause-stands c =

@@ -1,17 +1,36 @@
-use Rattle.std.proofs.Common.{◌<◌, ◌+◌, ◌++◌, ◌∙◌, refl, ap, sym, length, drop, Bool, arith, fold}
+use Rattle.std.proofs.Common.{◌<◌, ◌+◌, ◌++◌, [], ◌∙◌, refl, ap, sym, subst, length, drop, take}
+use Rattle.std.proofs.Common.{Bool, arith, fold, List, Option}
 use Rattle.std.specs.Option.{option_or}
 use Rattle.tuple_values.specs.Collections.{is_known}
 use Rattle.tuple_values.specs.Document.{ByteList}
 use Rattle.sort_spec.specs.Texts.{once}
 use Rattle.expr_types.specs.ExprTree.{inputs_in, inputs_of, expr_tree, operator_in}
+use Rattle.expr_check.specs.Held.{AreHeld}
 use Rattle.expr_check.specs.Reads.{with_name}
-use Rattle.expr_check.specs.Rules.{read_by}
-use Rattle.expr_check.specs.Walk.{order_of, orders_of, fields_of, all_fields, faults_where}
-use Rattle.expr_check.specs.Walk.{all_searched, searched_in}
+use Rattle.expr_types.specs.Names.{function_name}
+use Rattle.expr_check.specs.Rules.{read_by, fields_given}
+use Rattle.expr_check.specs.Walk.{order_of, orders_of, fields_of, all_fields, keys_of, all_keys}
+use Rattle.expr_check.specs.Walk.{unkeyed, keyless_of, keyless_in, faults_where, all_searched, searched_in}
+use Rattle.expr_check.specs.declared.checked.Within.{Within}
+use Rattle.expr_check.proofs.FaultLemmas.{none_first, none_second}
+use Rattle.expr_check.proofs.HoldLemmas.{found_below, held_next, planned_input}
 use Rattle.expr_check.proofs.ReadLemmas.{collections_of-parts, reads_more, once-once}
-use Rattle.expr_check.proofs.WalkLemmas.{fault_found, fields_of-parts, order_of-parts, inputs_more}
-use Rattle.expr_check.proofs.WalkLemmas.{faults_more}
+use Rattle.expr_check.proofs.WalkLemmas.{fault_found, order_of-parts, fields_of-parts}
+use Rattle.expr_check.proofs.WalkLemmas.{keys_of-parts, keyless_of-parts}
+use Rattle.expr_check.proofs.WalkLemmas.{inputs_more, firsts_more, faults_more}
 use Rattle.expr_check.proofs.walk.+walking.Goals as goal
+
+pub walk-walk_inputs-requires : goal.walk-walk_inputs-requires
+walk-walk_inputs-requires t c = (rw (← c.decreases) (omega arith), c.requires.planned)
+
+pub walk_inputs-walk-requires : goal.walk_inputs-walk-requires
+walk_inputs-walk-requires t c =
+    let whole = expr_tree c.args.expr.now in
+    let lt : c.loop-k.k < length (inputs_in whole) = omega arith in (
+      rw (← c.decreases) (omega (arith, c.input.ensures.lower)),
+      planned_input whole c.loop-k.k (expr_tree c.input.result.now) c.requires.planned lt
+          (c.input.ensures.value _),
+    )
 
 pub walk_inputs-loop-k-init : goal.walk_inputs-loop-k-init
 walk_inputs-loop-k-init t c =
@@ -19,8 +38,12 @@ walk_inputs-loop-k-init t c =
     record {
       orders = ap (λ w. w ++ orders_of (inputs_of inputs)) c.new-orders.ensures.items;
       fields = ap (λ w. w ++ all_fields (inputs_of inputs)) c.new-fields.ensures.items;
+      keys = ap (λ w. w ++ all_keys (inputs_of inputs)) c.new-keys.ensures.items;
+      keyless = refl;
       reads = ap (λ l. fold with_name l (all_searched (inputs_of inputs))) c.in_ok-reads.ensures;
       fault = refl;
+      held = λ none.
+          subst (λ (l : List Within). AreHeld l []) (sym c.new-withins.ensures.items) tt;
     }
 
 pub walk_inputs-with_names-requires : goal.walk_inputs-with_names-requires
@@ -34,65 +57,119 @@ walk_inputs-loop-k-preserved t c =
     let inputs = inputs_in (expr_tree c.args.expr.now) in
     let is_there : ByteList → Bool = λ name. is_known name c.args.names.now in
     let lt : c.loop-k.k < length inputs = omega arith in
+    let e = expr_tree c.input.result.now in
+    let rest = inputs_of (drop (c.loop-k.k + 1) inputs) in
+    let walked = c.in_ok-walked.walked in
     record {
       orders =
-          ap (λ w. w ++ orders_of (inputs_of (drop (c.loop-k.k + 1) inputs)))
-          c.in_ok-push.ensures.items
-          ∙ inputs_more order_of orders_of (λ e exprs. refl) inputs c.loop-k.k
-          (expr_tree c.input.result.now) c.loop-k.orders.items c.in_ok-walked.walked.order lt
-          (c.input.ensures.value _) c.in_ok-walked.ensures.order c.loop-k.invariant.orders;
+          ap (λ w. w ++ orders_of rest) c.in_ok-push.ensures.items
+          ∙ inputs_more order_of orders_of (λ e exprs. refl) inputs c.loop-k.k e
+          c.loop-k.orders.items walked.order lt (c.input.ensures.value _)
+          c.in_ok-walked.ensures.order c.loop-k.invariant.orders;
       fields =
-          ap (λ w. w ++ all_fields (inputs_of (drop (c.loop-k.k + 1) inputs)))
-          c.in_ok-push-2.ensures.items
-          ∙ inputs_more fields_of all_fields (λ e exprs. refl) inputs c.loop-k.k
-          (expr_tree c.input.result.now) c.loop-k.fields.items c.in_ok-walked.walked.fields lt
-          (c.input.ensures.value _) c.in_ok-walked.ensures.fields c.loop-k.invariant.fields;
+          ap (λ w. w ++ all_fields rest) c.in_ok-push-2.ensures.items
+          ∙ inputs_more fields_of all_fields (λ e exprs. refl) inputs c.loop-k.k e
+          c.loop-k.fields.items walked.fields lt (c.input.ensures.value _)
+          c.in_ok-walked.ensures.fields c.loop-k.invariant.fields;
+      keys =
+          ap (λ w. w ++ all_keys rest) c.in_ok-push-3.ensures.items
+          ∙ inputs_more keys_of all_keys (λ e exprs. refl) inputs c.loop-k.k e
+          c.loop-k.keys.items walked.keys lt (c.input.ensures.value _)
+          c.in_ok-walked.ensures.keys c.loop-k.invariant.keys;
+      keyless =
+          ap (λ w. option_or w (keyless_in rest)) c.or-keyless.ensures
+          ∙ firsts_more keyless_of keyless_in (λ e exprs. refl) inputs c.loop-k.k e
+          c.loop-k.keyless walked.keyless lt (c.input.ensures.value _)
+          c.in_ok-walked.ensures.keyless c.loop-k.invariant.keyless;
       reads =
           reads_more c.loop-k.reads
           (fold with_name (once (read_by (operator_in (expr_tree c.args.expr.now))))
           (all_searched (inputs_of inputs)))
-          c.in_ok-walked.walked.reads c.in_ok-reads-2.reads inputs c.loop-k.k
-          (expr_tree c.input.result.now) lt (c.input.ensures.value _) c.in_ok-reads-2.ensures
-          c.in_ok-walked.ensures.reads c.loop-k.invariant.reads;
+          walked.reads c.in_ok-reads-2.reads inputs c.loop-k.k e lt (c.input.ensures.value _)
+          c.in_ok-reads-2.ensures c.in_ok-walked.ensures.reads c.loop-k.invariant.reads;
       fault =
-          ap
-          (λ w. option_or w
-          (faults_where c.args.roots c.args.place is_there
-          (inputs_of (drop (c.loop-k.k + 1) inputs))))
+          ap (λ w. option_or w (faults_where c.args.roots c.args.place is_there rest))
           c.or-fault.ensures
-          ∙ faults_more c.args.roots c.args.place is_there inputs c.loop-k.k
-          (expr_tree c.input.result.now) c.loop-k.fault c.in_ok-walked.walked.fault lt
-          (c.input.ensures.value _) c.in_ok-walked.ensures.fault c.loop-k.invariant.fault;
+          ∙ faults_more c.args.roots c.args.place is_there inputs c.loop-k.k e c.loop-k.fault
+          walked.fault lt (c.input.ensures.value _) c.in_ok-walked.ensures.fault
+          c.loop-k.invariant.fault;
+      held = λ none.
+          let both = sym c.or-fault.ensures ∙ none in
+          subst (λ (l : List Within). AreHeld l (take (c.loop-k.k + 1) inputs))
+          (sym c.in_ok-push-4.ensures.items)
+          (held_next c.loop-k.withins.items walked.within inputs c.loop-k.k e lt
+          (c.input.ensures.value _)
+          (c.loop-k.invariant.held (none_first c.loop-k.fault walked.fault both))
+          (c.in_ok-walked.ensures.held (none_second c.loop-k.fault walked.fault both)));
     }
+
+pub walk-fault_at-requires : goal.walk-fault_at-requires
+walk-fault_at-requires t c = c.in_ok-inputs.ensures.found
+
+pub walk-hold_faultless-requires : goal.walk-hold_faultless-requires
+walk-hold_faultless-requires t c = λ own none.
+    let below = c.in_ok-inputs.field-0 in
+    let is_there : ByteList → Bool = λ name. is_known name c.args.names.now in
+    found_below c.args.roots c.args.place c.place_in.result is_there (expr_tree c.args.expr.now)
+    below.inputs below.withins.items c.requires.planned c.in_ok-inputs.ensures.found
+    c.in_ok-inputs.ensures.reads c.place_in.ensures c.in_ok-inputs.ensures.fault
+    c.in_ok-inputs.ensures.held none
 
 pub walk-returns-clause-order : goal.walk-returns-clause-order
 walk-returns-clause-order t c =
     cc (
       c.in_ok-order.ensures,
-      c.in_ok-orders.ensures.orders,
-      c.in_ok-orders.orders-is,
-      c.in_ok-orders.ensures.fields,
-      c.in_ok-orders.fields-is,
-      c.as_slice-2.ensures.value,
+      c.in_ok-inputs.ensures.found.orders,
+      c.in_ok-inputs.ensures.found.fields,
+      c.as_slice.ensures.value,
       order_of-parts (expr_tree c.args.expr.now),
     )
 
 pub walk-returns-clause-fields : goal.walk-returns-clause-fields
 walk-returns-clause-fields t c =
+    let whole = expr_tree c.args.expr.now in
+    c.in_ok-fields.ensures
+    ∙ ap (fields_given (operator_in whole)) c.in_ok-inputs.ensures.found.fields
+    ∙ sym (fields_of-parts whole)
+
+pub walk-returns-clause-keys : goal.walk-returns-clause-keys
+walk-returns-clause-keys t c =
     cc (
-      c.in_ok-fields.ensures,
-      c.in_ok-orders.ensures.fields,
-      c.in_ok-orders.fields-is,
-      fields_of-parts (expr_tree c.args.expr.now),
+      c.in_ok-keys.ensures,
+      c.in_ok-inputs.ensures.found.fields,
+      c.in_ok-inputs.ensures.found.keys,
+      c.as_slice-2.ensures.value,
+      keys_of-parts (expr_tree c.args.expr.now),
     )
+
+pub walk-returns-clause-keyless : goal.walk-returns-clause-keyless
+walk-returns-clause-keyless t c =
+    let whole = expr_tree c.args.expr.now in
+    let function = function_name (operator_in whole) in
+    c.in_ok-keyless.ensures
+    ∙ ap
+    (λ (first : Option ByteList). option_or first (unkeyed function c.in_ok-keys.keys))
+    c.in_ok-inputs.ensures.found.keyless
+    ∙ ap
+    (λ (keys : Option (List ByteList)).
+    option_or (keyless_in (inputs_of (inputs_in whole))) (unkeyed function keys))
+    (walk-returns-clause-keys t c)
+    ∙ sym (keyless_of-parts whole)
 
 pub walk-returns-clause-reads : goal.walk-returns-clause-reads
 walk-returns-clause-reads t c =
-    c.in_ok-orders.ensures.reads ∙ sym (collections_of-parts (expr_tree c.args.expr.now))
+    c.in_ok-inputs.ensures.reads ∙ sym (collections_of-parts (expr_tree c.args.expr.now))
 
 pub walk-returns-clause-fault : goal.walk-returns-clause-fault
 walk-returns-clause-fault t c =
     let is_there : ByteList → Bool = λ name. is_known name c.args.names.now in
     fault_found c.args.roots c.args.place c.place_in.result is_there (expr_tree c.args.expr.now)
-    c.in_ok-own.own c.in_ok-orders.field-0.fault c.or.result c.or.ensures c.in_ok-own.ensures
-    c.place_in.ensures c.in_ok-orders.ensures.fault
+    c.in_ok-own.own c.in_ok-inputs.field-0.inputs.fault c.or.result c.or.ensures
+    c.in_ok-own.ensures c.place_in.ensures c.in_ok-inputs.ensures.fault
+
+pub walk-returns-clause-held : goal.walk-returns-clause-held
+walk-returns-clause-held t c = λ none.
+    let own = c.in_ok-own.own in
+    let below = c.in_ok-inputs.field-0.inputs.fault in
+    let both = sym c.or.ensures ∙ none in
+    c.in_ok-within.ensures (none_first own below both) (none_second own below both)
