@@ -22,8 +22,8 @@ use Rattle.expr_types.proofs.PlainLemmas.{answered_plain}
 use Rattle.expr_types.proofs.TreeLemmas.{node-parts}
 use Rattle.expr_check.specs.Orders.{AreInOrder, directions_of}
 use Rattle.expr_check.proofs.JoinLemmas.{joinable}
-use Rattle.expr_check.specs.Rules.{need_at, itself_at}
-use Rattle.expr_check.specs.Walk.{orders_of, own_fault, own_faults, own_at, followed_in}
+use Rattle.expr_check.specs.Rules.{need_at, itself_at, parted_at}
+use Rattle.expr_check.specs.Walk.{orders_of, own_fault, own_faults, own_at, followed_in, keyless_in, all_keys}
 use Rattle.expr_check.specs.Faults.{join_fault}
 use Rattle.expr_check.specs.declared.order.Order.{Order}
 use Rattle.expr_check.proofs.FaultLemmas.{none_first, none_second}
@@ -41,10 +41,13 @@ fault_parts : (t : ExprTree) → own_fault t ≡ None
 fault_parts t none =
     let op = operator_in t in
     let inputs = inputs_of (inputs_in t) in
+    let parted = parted_at op (keyless_in inputs) (all_keys inputs) in
     let both : option_or (own_at op inputs) (own_faults inputs) ≡ None =
     ap own_fault (node-parts t) ∙ none in (
-      none_second (itself_at op (followed_in inputs)) (need_at op (orders_of inputs))
-          (none_first (own_at op inputs) (own_faults inputs) both),
+      none_first (need_at op (orders_of inputs)) parted
+          (none_second (itself_at op (followed_in inputs))
+          (option_or (need_at op (orders_of inputs)) parted)
+          (none_first (own_at op inputs) (own_faults inputs) both)),
       none_second (own_at op inputs) (own_faults inputs) both,
     )
 
