@@ -1,0 +1,16 @@
+pub mod KnownLemmas
+pub mod TopicLemmas
+pub mod LookLemmas
+pub mod LeaveLemmas
+pub mod ValueLemmas
+pub mod SealLemmas
+pub mod DeliverLemmas
+pub mod NumberLemmas
+pub mod RecordLemmas
+pub mod EmptyLemmas
+pub mod CallLemmas
+pub mod CutLemmas
+pub mod CloseLemmas
+pub mod AppendLemmas
+pub mod StartLemmas
+pub mod VisitLemmas

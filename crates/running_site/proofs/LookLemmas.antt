@@ -1,0 +1,141 @@
+-- A pass that took a turn and looked in it.
+use Rattle.std.proofs.Common.{◌≡◌, ◌≢◌, ℕ, ◌+◌, ◌<◌, List, [], ◌∷◌, ◌++◌, length, get_or, set, slice_index, refl, sym, ap, ◌∙◌, subst, arith, length-set}
+use Rattle.std.specs.Prelude.{All, Option, Some, None, slice_get}
+use Rattle.std.proofs.lemmas.List.{get_or-set_other}
+use Rattle.tuple_values.specs.declared.names.NameShards.{NameShards}
+use Rattle.shard_versions.specs.declared.cut.CutMark.{CutMark}
+use Rattle.shard_versions.specs.declared.cut.OwnMark.{OwnMark}
+use Rattle.topic_book.specs.Cells.{cells_in}
+use Rattle.exchange_rules.specs.Cells.{Log, author_of, book_in}
+use Rattle.exchange_rules.specs.Primitives.{LooksAt}
+use Rattle.exchange_rules.specs.declared.log_entry.LogEntry.{LogEntry}
+use Rattle.site_laws.specs.Looks.{last_seen, looked_at, IsLater, IsLookCovered, Sight}
+use Rattle.site_laws.specs.Sealings.{names_told}
+use Rattle.site_laws.specs.SiteCells.{IsLawful}
+use Rattle.site_laws.specs.declared.cell_about.CellAbout.{CellAbout}
+use Rattle.site_laws.proofs.LaterLemmas.{later-look}
+use Rattle.turn_table.specs.Calls.{turn_about, turn_history}
+use Rattle.turn_table.specs.Histories.{at}
+use Rattle.turn_table.specs.Knowledge.{hand, looked, took, waited, IsFree, IsWide}
+use Rattle.turn_table.specs.Steps.{AddsOthers, Glimpse}
+use Rattle.turn_table.specs.declared.knowledge.Known.{Known}
+use Rattle.turn_table.specs.declared.turn.Turn.{Turn}
+use Rattle.site_cells.specs.Values.{about_in, law_of, log_of_cell, tells_of}
+use Rattle.site_cells.specs.declared.site_cell.SiteCell.{SiteCell}
+use Rattle.running_site.specs.Passes.{sight_in, writer_in}
+use Rattle.running_site.specs.Visits.{AreCounted, IsTurn, IsVisit}
+use Rattle.running_site.proofs.KnownLemmas.{are-were, each_of, names_of, one_more_is}
+use Rattle.running_site.proofs.TopicLemmas.{counted-fit}
+
+module _ (k k1 k2 : Known CellAbout LogEntry) (cell count : ℕ) (t : Turn SiteCell)
+    (here : t.cell ≡ cell)
+    (first : k1 ≡ took cell (turn_history log_of_cell t) (waited cell count k))
+    (second : k2 ≡ looked t.cell (turn_history log_of_cell t) k1) where
+  abbrev h : Log
+  h = turn_history log_of_cell t
+
+  -- what the pass knows then
+  abbrev after : Known CellAbout LogEntry
+  after = looked cell h (took cell h (waited cell count k))
+
+  known-is : k2 ≡ after
+  known-is = second ∙ (λ i. looked (here i) h (first i))
+
+  -- what came since the pass had seen the cell
+  came : (adds : AddsOthers author_of k1 t.cell h) → h ≡ at k.seen cell ++ adds.0
+  came adds = adds.1 ∙ (λ i. at (first i).seen (here i) ++ adds.0)
+
+  -- a pass that looked is a writer that looked
+  pub looked-writer : (upto : ℕ) (marks more : List CutMark) (own : List OwnMark)
+      → cell < length k.looks → AddsOthers author_of k1 t.cell h → upto ≡ length h
+      → more ≡ marks ++ record { cell = cell; upto = upto } ∷ []
+      → LooksAt (writer_in k marks own) (writer_in k2 more own) cell
+  looked-writer upto marks more own lt adds long marked =
+      let new : Log = adds.0 in
+      let whole = came adds in
+      let others = subst (λ (x : Known CellAbout LogEntry).
+      All (λ e. author_of e ≢ x.number) new) first adds.2 in
+      let seen_upto : upto ≡ length (at k.seen cell ++ new) = long ∙ ap length whole in
+      let marked' : more
+      ≡ marks ++ record { cell = cell; upto = length (at k.seen cell ++ new) } ∷ [] =
+      marked ∙ ap (λ u. marks ++ record { cell = cell; upto = u } ∷ []) seen_upto in
+      record {
+        more = new;
+        others = each_of (λ n. author_of n ≢ k.number) new others;
+        is = (λ i. writer_in (known-is i) (marked' i) own)
+            ∙ (λ i. record {
+              me = k.number;
+              seen = set k.seen cell (whole i);
+              marks = marks
+                  ++ record { cell = cell; upto = length (at k.seen cell ++ new) } ∷ [];
+              own = own;
+              looks = one_more_is cell k.looks lt i;
+            });
+      }
+
+  module _ (names : List NameShards) (limit : ℕ) (v : IsVisit names limit k None)
+      (g : Glimpse law_of tells_of t.cell k2) where
+    about-is : k2.about ≡ k.about
+    about-is = ap (λ (x : Known CellAbout LogEntry). x.about) known-is
+
+    about-back : k.about ≡ k2.about
+    about-back = sym about-is
+
+    told-names : names_told k2.about ≡ names
+    told-names = ap names_told (about-is ∙ v.knowing.about) ∙ names_of names limit
+
+    -- the law holds of the histories at the look
+    lawful : IsLawful names g.histories
+    lawful = subst (λ ns. IsLawful ns g.histories) told-names g.lawful
+
+    -- the book that was seen there is on the site's collections
+    topics : at k2.seen t.cell ≡ h → t.cell ≡ cells_in names
+        → AreCounted names (book_in h)
+    topics seen book =
+        let same : get_or g.histories (cells_in names) [] ≡ h =
+        ap (λ c. get_or g.histories c []) (sym book) ∙ (sym g.whole ∙ seen) in
+        subst (λ l. AreCounted names (book_in l)) same
+        (counted-fit names (book_in (get_or g.histories (cells_in names) []))
+        lawful.law.fit_book.fit)
+
+    -- it has just this turn
+    pub looked-visit : cell < length k.seen → hand k2 t.cell ≡ Some h → at k2.seen t.cell ≡ h
+        → turn_about about_in t ≡ slice_get k.about cell → IsVisit names limit k2 (Some t)
+    looked-visit lt holds seen about =
+        let free = v.idle refl in
+        let long : length k2.seen ≡ length k.seen =
+        ap (λ (x : Known CellAbout LogEntry). length x.seen) known-is
+        ∙ length-set k.seen cell h in
+        let turn : IsTurn names k2 t = record {
+          within = omega (arith, long, lt, here);
+          in_hand = holds;
+          others = λ c apart.
+              ap (λ (x : Known CellAbout LogEntry). hand x c) known-is
+              ∙ (get_or-set_other k.hand cell c (Some h) None (λ e. apart (e ∙ sym here))
+              ∙ free c);
+          whole = seen;
+          suits = about ∙ (λ i. slice_get (about-back i) (sym here i));
+          topics = topics seen;
+        } in
+        record {
+          knowing = record { about = about-is ∙ v.knowing.about; since = λ c looked. are-were (last_seen (sight_in k2) c) k2.seen (g.since c looked) };
+          idle = λ e. absurd (cc);
+          holding = λ u e. let same : t ≡ u = cc in subst (IsTurn names k2) same turn;
+        }
+
+    -- and this moment is a later one
+    pub looked-later : cell < length k.looks → cell < length k.seen
+        → AddsOthers author_of k1 t.cell h → IsLater names (sight_in k) (sight_in k2)
+    looked-later lt within adds =
+        let new : Log = adds.0 in
+        let sight : sight_in k2 ≡ looked_at cell h (sight_in k) = ap sight_in known-is in
+        let seen : get_or k2.seen cell [] ≡ get_or g.histories cell [] =
+        subst (λ c. get_or k2.seen c [] ≡ get_or g.histories c []) here g.whole in
+        let told = subst (λ ns. (d : ℕ) → 0 < slice_index k2.looks d
+        → IsLookCovered ns d (last_seen (sight_in k2) d) g.histories) told-names g.told in
+        let told' = subst (λ (x : Sight). (d : ℕ) → 0 < slice_index x.looks d
+        → IsLookCovered names d (last_seen x d) g.histories) sight told in
+        subst (IsLater names (sight_in k)) (sym sight)
+        (later-look names (sight_in k) cell h new lt g.histories within (sym (came adds))
+        (subst (λ (x : Sight). get_or x.seen cell [] ≡ get_or g.histories cell []) sight seen)
+        told')

@@ -1,0 +1,232 @@
+-- A pass that appended in its turn.
+use Rattle.std.proofs.Common.{◌≡◌, ◌≢◌, ℕ, ◌+◌, ◌-◌, ◌<◌, ◌≤◌, true, List, [], ◌∷◌, ◌++◌, length, get_or, map, set, refl, sym, ap, ◌∙◌, subst, arith, length-append, length-set, inl, inr}
+use Rattle.std.specs.Prelude.{IfSome, Option, Some, None, is_some, slice_get}
+use Rattle.std.specs.List.{AllByRecursion}
+use Rattle.std.proofs.lemmas.List.{get_or-set_other, length-map}
+use Rattle.tuple_values.specs.declared.names.NameShards.{NameShards}
+use Rattle.shard_versions.specs.declared.cut.CutMark.{CutMark}
+use Rattle.shard_versions.specs.declared.cut.OwnMark.{OwnMark}
+use Rattle.shard_versions.specs.declared.entry.Entry.{Entry}
+use Rattle.shard_versions.proofs.ListLemmas.{each_append}
+use Rattle.topic_book.specs.Cells.{cells_in}
+use Rattle.topic_book.specs.Fitness.{IsFitEntry}
+use Rattle.topic_book.specs.declared.topic.BookEntry.{BookEntry}
+use Rattle.topic_book.specs.declared.topic.BookEntry.TheVariants as book
+use Rattle.exchange_rules.specs.Cells.{Log, Payload, book_in, payload_of, signed, write}
+use Rattle.exchange_rules.specs.Primitives.{made}
+use Rattle.exchange_rules.specs.Steps.{AreBy, kinds_of}
+use Rattle.exchange_rules.specs.declared.log_entry.LogEntry.{LogEntry}
+use Rattle.exchange_rules.specs.declared.log_entry.LogEntry.TheVariants as logged
+use Rattle.exchange_rules.proofs.StepLemmas.{log_of-signed}
+use Rattle.site_laws.specs.Duties.{MayAppendEntry}
+use Rattle.site_laws.specs.Looks.{last_seen}
+use Rattle.site_laws.specs.Sealings.{entries_of, MayAppend}
+use Rattle.site_laws.specs.declared.cell_about.CellAbout.{CellAbout}
+use Rattle.site_laws.specs.declared.sealing.Sealing.{Sealing}
+use Rattle.site_laws.specs.declared.sealing.Sealing.TheVariants as sealing
+use Rattle.site_laws.proofs.CellLemmas.{book-append}
+use Rattle.stream_site.proofs.TopicLemmas.{entry_fit}
+use Rattle.turn_table.specs.Calls as turns
+use Rattle.turn_table.specs.Calls.{turn_about, turn_history}
+use Rattle.turn_table.specs.Histories.{at}
+use Rattle.turn_table.specs.Knowledge.{hand, sealed}
+use Rattle.turn_table.specs.declared.knowledge.Known.{Known}
+use Rattle.turn_table.specs.declared.turn.Turn.{Turn}
+use Rattle.site_cells.specs.Values.{about_in, log_of_cell, IsRefused, IsTaken}
+use Rattle.site_cells.specs.declared.cell_refusal.CellRefusal.TheVariants.{OutOfMemory}
+use Rattle.site_cells.specs.declared.cell_value.CellValue.{CellValue}
+use Rattle.site_cells.specs.declared.cell_value.CellValue.TheVariants as value
+use Rattle.site_cells.specs.declared.site_cell.SiteCell.{SiteCell}
+use Rattle.running_site.specs.Passes.{sight_in, writer_in, IsKnowing}
+use Rattle.running_site.specs.Seals.{IsSealed}
+use Rattle.running_site.specs.Visits.{AreCounted, IsTurn, IsVisit}
+use Rattle.running_site.proofs.KnownLemmas.{are-were, seen-more, were-are}
+use Rattle.running_site.proofs.TopicLemmas.{counted-more}
+use Rattle.running_site.proofs.ValueLemmas.{step-by}
+
+-- what holds of each value that is there
+pub if-there : {C : Type 0} (P : C → Type 0) (o : Option C) → ((y : C) → o ≡ Some y → P y)
+    → IfSome o P
+if-there P None f = tt
+if-there P (Some y) f = f y refl
+
+-- what holds of a value holds of what follows from it
+pub if-also : {C : Type 0} (P Q : C → Type 0) (o : Option C)
+    → ((y : C) → o ≡ Some y → P y → Q y) → IfSome o P → IfSome o Q
+if-also P Q None f h = tt
+if-also P Q (Some y) f h = f y refl h
+
+-- the value that is there
+pub from-there : {C : Type 0} (P : C → Type 0) (o : Option C) (y : C) → o ≡ Some y → IfSome o P
+    → P y
+from-there P o y e h = subst (λ x. IfSome x P) e h
+
+-- where a value is there, what holds of it holds
+pub of-there : {C : Type 0} (P : C → Type 0) (Q : Type 0) (o : Option C) → is_some o ≡ true
+    → ((y : C) → o ≡ Some y → P y → Q) → IfSome o P → Q
+of-there P Q None some f h = absurd (cc)
+of-there P Q (Some y) some f h = f y refl h
+
+-- memory may be wanting for whatever there is room for
+pub memory-refused : (v : CellValue) (x : Sealing) → IsTaken v x → IsRefused v x OutOfMemory
+memory-refused (value.Shard s) (sealing.Shard step) taken = taken
+memory-refused (value.Shard s) (sealing.Book e) taken = taken
+memory-refused (value.Book b) (sealing.Shard step) taken = taken
+memory-refused (value.Book b) (sealing.Book (book.Bind by key c)) taken = tt
+memory-refused (value.Book b) (sealing.Book (book.Store by key upto)) taken = refl
+
+-- a turn with another value of the same log
+pub turned-visit : (names : List NameShards) (limit : ℕ) (k : Known CellAbout LogEntry)
+    (t u : Turn SiteCell) → IsVisit names limit k (Some t) → u.cell ≡ t.cell
+    → turn_history log_of_cell u ≡ turn_history log_of_cell t
+    → turn_about about_in u ≡ turn_about about_in t → IsVisit names limit k (Some u)
+turned-visit names limit k t u v cell log about =
+    let x = v.holding t refl in
+    let turn : IsTurn names k u = record {
+      within = subst (λ n. n < length k.seen) (sym cell) x.within;
+      in_hand = ap (hand k) cell ∙ (x.in_hand ∙ ap Some (sym log));
+      others = λ c apart. x.others c (λ e. apart (e ∙ sym cell));
+      whole = ap (at k.seen) cell ∙ (x.whole ∙ sym log);
+      suits = about ∙ (x.suits ∙ ap (slice_get k.about) (sym cell));
+      topics = λ is. subst (λ l. AreCounted names (book_in l)) (sym log)
+          (x.topics (sym cell ∙ is));
+    } in
+    record {
+      knowing = v.knowing;
+      idle = λ e. absurd (cc);
+      holding = λ w e. let same : u ≡ w = cc in subst (IsTurn names k) same turn;
+    }
+
+-- the book's entries in what may be appended are on the collections
+topics-more : (names : List NameShards) (me : ℕ) (seen : List Log) (cell : ℕ) (x : Sealing)
+    → MayAppend names me seen cell x → cell ≡ cells_in names
+    → AllByRecursion (IsFitEntry names) (book_in (entries_of x))
+topics-more names me seen cell (sealing.Shard step) may is =
+    let lt = may.0 in absurd (omega (arith, lt, is))
+topics-more names me seen cell (sealing.Book e) may is = (entry_fit names seen me e may.1, tt)
+
+module _ (names : List NameShards) (limit : ℕ) (k k2 : Known CellAbout LogEntry)
+    (t u : Turn SiteCell) (x : Sealing) (v : IsVisit names limit k (Some t))
+    (cell : ℕ) (here : t.cell ≡ cell) (same : u.cell ≡ t.cell)
+    (grown : turn_history log_of_cell u ≡ turn_history log_of_cell t ++ entries_of x)
+    (after : k2 ≡ sealed t.cell (turn_history log_of_cell u) k) where
+  abbrev old : IsTurn names k t
+  old = v.holding t refl
+
+  abbrev now : Log
+  now = at k.seen cell ++ entries_of x
+
+  -- what the pass has seen then
+  seen-now : turn_history log_of_cell u ≡ now
+  seen-now =
+      grown ∙ ap (λ l. l ++ entries_of x) (sym old.whole ∙ ap (at k.seen) here)
+
+  known-is : k2 ≡ sealed cell now k
+  known-is = after ∙ (λ i. sealed (here i) (seen-now i) k)
+
+  -- the sealing is appended, with its mark
+  pub is-sealed : (from count : ℕ) (own more : List OwnMark)
+      → from ≡ length (turn_history log_of_cell t)
+      → from + count ≡ length (turn_history log_of_cell u)
+      → more ≡ own ++ record { cell = cell; from = from; count = count } ∷ []
+      → IsSealed k k2 own more cell x
+  is-sealed from count own more start end marked =
+      let long = ap length grown in
+      let both = length-append (turn_history log_of_cell t) (entries_of x) in
+      let from_is : from ≡ length (at k.seen cell) =
+      start ∙ ap length (sym old.whole ∙ ap (at k.seen) here) in
+      let count_is : count ≡ length (entries_of x) = omega (arith, start, end, long, both) in
+      record {
+        known_is = known-is;
+        mark = marked
+            ∙ (λ i. own ++ record { cell = cell; from = from_is i; count = count_is i } ∷ []);
+      }
+
+  -- the pass has its turn still
+  pub sealed-visit : MayAppend names k.number k.seen cell x
+      → hand k2 u.cell ≡ Some (turn_history log_of_cell u)
+      → at k2.seen u.cell ≡ turn_history log_of_cell u
+      → turn_about about_in u ≡ turn_about about_in t → IsVisit names limit k2 (Some u)
+  sealed-visit may holds whole about =
+      let within = old.within in
+      let lt : cell < length k.seen = subst (λ n. n < length k.seen) here within in
+      let longer : length k2.seen ≡ length k.seen =
+      ap (λ (z : Known CellAbout LogEntry). length z.seen) known-is
+      ∙ length-set k.seen cell now in
+      let knowing : IsKnowing names limit (sealed cell now k) = record {
+        about = v.knowing.about;
+        since = λ c looked.
+            are-were (last_seen (sight_in k) c) (set k.seen cell now)
+            (seen-more (last_seen (sight_in k) c) k.seen cell (entries_of x) lt
+            (were-are (last_seen (sight_in k) c) k.seen (v.knowing.since c looked)));
+      } in
+      let turn : IsTurn names k2 u = record {
+        within = omega (arith, longer, within, same);
+        in_hand = holds;
+        others = λ c apart.
+            ap (λ (z : Known CellAbout LogEntry). hand z c) after
+            ∙ (get_or-set_other k.hand t.cell c (Some (turn_history log_of_cell u)) None
+            (λ e. apart (e ∙ sym same))
+            ∙ old.others c (λ e. apart (e ∙ sym same)));
+        whole = whole;
+        suits = about ∙ (old.suits ∙ (λ i. slice_get (about-back i) (sym same i)));
+        topics = λ is.
+            let at_book : t.cell ≡ cells_in names = sym same ∙ is in
+            subst (λ l. AreCounted names (book_in l)) (sym grown)
+            (subst (AreCounted names)
+            (sym (book-append (turn_history log_of_cell t) (entries_of x)))
+            (counted-more names (book_in (turn_history log_of_cell t))
+            (book_in (entries_of x)) (old.topics at_book)
+            (topics-more names k.number k.seen cell x may (sym here ∙ at_book))));
+      } in
+      record {
+        knowing = subst (IsKnowing names limit) (sym known-is) knowing;
+        idle = λ e. absurd (cc);
+        holding = λ w e. let one : u ≡ w = cc in subst (IsTurn names k2) one turn;
+      }
+    where
+      about-back : k.about ≡ k2.about
+      about-back = ap (λ (z : Known CellAbout LogEntry). z.about)
+          (sym after)
+
+-- the writer after a sealing of these payloads
+pub sealed-made : (k k2 : Known CellAbout LogEntry) (marks : List CutMark)
+    (own more : List OwnMark) (cell : ℕ) (x : Sealing) (payloads : List Payload)
+    → IsSealed k k2 own more cell x → entries_of x ≡ signed k.number payloads
+    → writer_in k2 marks more ≡ made (writer_in k marks own) cell payloads
+sealed-made k k2 marks own more cell x payloads s e =
+    let size : length (signed k.number payloads) ≡ length payloads = simp length-map in
+    let count : length (entries_of x) ≡ length payloads = ap length e ∙ size in
+    (λ i. writer_in (s.known_is i) marks (s.mark i))
+    ∙ (λ i. record {
+      me = k.number;
+      seen = set k.seen cell (at k.seen cell ++ e i);
+      marks = marks;
+      own = own ++ record {
+        cell = cell;
+        from = length (at k.seen cell);
+        count = count i;
+      } ∷ [];
+      looks = k.looks;
+    })
+
+-- the payloads of a step
+pub step-signed : (names : List NameShards) (me : ℕ) (seen : List Log) (cell : ℕ)
+    (step : List Entry) → MayAppend names me seen cell (sealing.Shard step)
+    → entries_of (sealing.Shard step) ≡ signed me (map write (kinds_of step))
+step-signed names me seen cell step may =
+    log_of-signed me step (step-by names me seen cell step may)
+
+-- and of an entry of the book
+pub entry-signed : (names : List NameShards) (me : ℕ) (seen : List Log) (e : BookEntry)
+    → MayAppendEntry names me seen e
+    → entries_of (sealing.Book e) ≡ signed me (payload_of e ∷ [])
+entry-signed names me seen (book.Bind by key b) may =
+    ap (λ n. logged.Book (book.Bind n key b) ∷ []) may.0
+entry-signed names me seen (book.Store by key upto) may =
+    ap (λ n. logged.Book (book.Store n key upto) ∷ []) may.0
+
+-- the log of the value in a turn
+pub log-there : (t : Turn SiteCell) (y : SiteCell) → t.value ≡ Some y
+    → log_of_cell y ≡ turn_history log_of_cell t
+log-there t y there = ap (turns.history_in log_of_cell) (sym there)

@@ -1,0 +1,43 @@
+-- A pass that comes to its site, and goes.
+use Rattle.std.proofs.Common.{◌≡◌, ℕ, List, refl, sym, ap, ◌∙◌, subst}
+use Rattle.std.specs.Prelude.{Option, Some, None}
+use Rattle.tuple_values.specs.declared.names.NameShards.{NameShards}
+use Rattle.atomic_table.specs.Seated.{TableId}
+use Rattle.turn_table.specs.Calls.{known, table_of}
+use Rattle.site_cells.specs.declared.site_cell.SiteCell.{SiteCell}
+use Rattle.running_site.specs.Passes.{layout_in, IsOpened, IsPassIn, TablePass}
+use Rattle.running_site.specs.Visits.{IsVisit}
+
+-- two passes in options
+same-pass : (p q : TablePass) → Some p ≡ Some q → p ≡ q
+same-pass p q e = cc
+
+-- a pass that comes has no turn
+pub came-visit : (table : TableId) (cells : List SiteCell) (names : List NameShards) (limit : ℕ)
+    (o : Option TablePass) (p : TablePass) → o ≡ Some p
+    → IsPassIn table cells (layout_in names limit) o
+    → (table_of p ≡ table) × IsVisit names limit (known p) None
+came-visit table cells names limit o p e i =
+    let same : i.inside ≡ p = same-pass i.inside p (sym i.there ∙ e) in
+    subst (λ (q : TablePass). (table_of q ≡ table) × IsVisit names limit (known q) None) same (
+      i.table_is,
+      record {
+        knowing = i.knowing;
+        idle = λ _. i.free;
+        holding = λ t h. absurd (cc);
+      },
+    )
+
+-- and one with no turn goes
+pub gone-pass : (table : TableId) (cells : List SiteCell) (names : List NameShards) (limit : ℕ)
+    (o : Option TablePass) (p : TablePass) → o ≡ Some p → table_of p ≡ table
+    → IsOpened names limit cells → IsVisit names limit (known p) None
+    → IsPassIn table cells (layout_in names limit) o
+gone-pass table cells names limit o p e seated opened v = record {
+  opened = opened;
+  inside = p;
+  there = e;
+  table_is = seated;
+  knowing = v.knowing;
+  free = v.idle refl;
+}

@@ -1,0 +1,136 @@
+use Rattle.std.proofs.Common.{◌≡◌, ◌≢◌, ℕ, ◌+◌, ◌<◌, List, map, length, sym, ap, ◌∙◌, subst, arith}
+use Rattle.std.specs.Prelude.{All, Contains, IfOk, Result, Ok, Err}
+use Rattle.std.proofs.lemmas.List.{length-map}
+use Rattle.tuple_values.specs.declared.names.NameShards.{NameShards}
+use Rattle.topic_book.specs.Cells.{cells_in}
+use Rattle.once_core.specs.Law.{IsLaw}
+use Rattle.once_core.specs.declared.world.Histories.{Histories}
+use Rattle.exchange_rules.specs.Cells.{Log, author_of}
+use Rattle.site_laws.specs.SiteCells.{histories_in}
+use Rattle.stream_site.specs.Plains.{logs_in}
+use Rattle.turn_table.specs.Calls.{known, table_of}
+use Rattle.turn_table.specs.Histories.{GrewBy}
+use Rattle.turn_table.specs.Knowledge.{IsFree}
+use Rattle.site_cells.specs.Values.{about_in, log_of_cell}
+use Rattle.running_site.specs.Passes.{layout_in, number_of, numbers_to, writer_of, TablePass}
+use Rattle.running_site.specs.Records.{passes_in}
+use Rattle.running_site.proofs.CloseLemmas.{all-inside, all-of, closed-counted, closed-law, closed-logs, closed-signed, ok-also, opened-by, seen-all, some-pass}
+use Rattle.running_site.proofs.opening.SiteOf+SiteCell.close.Goals as goal
+
+pub close-requires-clause-some : goal.close-requires-clause-some
+close-requires-clause-some c =
+    let self = c.args.self in
+    let are = all-inside self.table.board.shared.table_id
+    self.table.board.shared.key.cells.value (layout_in self.names self.limit)
+    c.args.passes c.requires.own in
+    let inside = c.in_ok-inside.ensures in
+    let some = some-pass self.passes (map number_of c.args.passes) self.some c.requires.all in
+    let a : length (map number_of c.args.passes) ≡ length (passes_in c.args.passes) =
+    ap length (sym are.numbers) ∙ simp length-map in
+    let b = ap length inside in
+    omega (arith, some, a, b)
+
+pub close-requires-clause-own : goal.close-requires-clause-own
+close-requires-clause-own c =
+    let self = c.args.self in
+    let table = self.table.board.shared.table_id in
+    let are = all-inside table self.table.board.shared.key.cells.value (layout_in self.names self.limit) c.args.passes c.requires.own in
+    subst (All (λ (p : TablePass). table_of p ≡ table)) (sym c.in_ok-inside.ensures)
+    (all-of (λ (p : TablePass). table_of p ≡ table) (passes_in c.args.passes) are.own)
+
+pub close-requires-clause-free : goal.close-requires-clause-free
+close-requires-clause-free c =
+    let self = c.args.self in
+    let are = all-inside self.table.board.shared.table_id
+    self.table.board.shared.key.cells.value (layout_in self.names self.limit)
+    c.args.passes c.requires.own in
+    subst (All (λ (p : TablePass). IsFree (known p))) (sym c.in_ok-inside.ensures)
+    (all-of (λ (p : TablePass). IsFree (known p)) (passes_in c.args.passes) are.free)
+
+pub close-requires-clause-all : goal.close-requires-clause-all
+close-requires-clause-all c =
+    let self = c.args.self in
+    let are = all-inside self.table.board.shared.table_id
+    self.table.board.shared.key.cells.value (layout_in self.names self.limit)
+    c.args.passes c.requires.own in
+    let P : List ℕ → List ℕ → Type 0 = λ numbers ns. All (λ n. Contains numbers n) ns in
+    subst (P (map (λ (p : TablePass). (known p).number) c.in_ok-inside.inside)) (sym self.numbered)
+    (subst (λ ps. P (map (λ (p : TablePass). (known p).number) ps) (numbers_to self.passes))
+    (sym c.in_ok-inside.ensures)
+    (subst (λ numbers. P numbers (numbers_to self.passes)) (sym are.numbers) c.requires.all))
+
+pub returns-clause-law : goal.returns-clause-law
+returns-clause-law c =
+    let self = c.args.self in
+    let key = self.table.board.shared.key in
+    let cells = c.close.result in
+    let some = some-pass self.passes (map number_of c.args.passes) self.some c.requires.all in
+    let long : length (map number_of c.args.passes) ≡ length c.args.passes = simp length-map in
+    let opened = opened-by self.table.board.shared.table_id key.cells.value
+    (layout_in self.names self.limit) c.args.passes (omega (arith, some, long)) c.requires.own in
+    let Ends : Histories → Type 0 = λ hs. (ns : List NameShards)
+    → length cells ≡ cells_in ns + 1 → hs ≡ histories_in ns (map log_of_cell cells) in
+    ok-also Ends (λ hs. IsLaw self.names hs) c.into_histories.result
+    (λ hs ends. closed-law self.names self.limit self.passes cells hs (map about_in key.cells.value)
+    (map log_of_cell key.cells.value) key.numbers.value opened.told opened.empty self.numbered
+    c.close.ensures.lawful c.close.ensures.about ends)
+    c.into_histories.ensures
+
+pub returns-clause-counted : goal.returns-clause-counted
+returns-clause-counted c =
+    let self = c.args.self in
+    let key = self.table.board.shared.key in
+    let cells = c.close.result in
+    let some = some-pass self.passes (map number_of c.args.passes) self.some c.requires.all in
+    let long : length (map number_of c.args.passes) ≡ length c.args.passes = simp length-map in
+    let opened = opened-by self.table.board.shared.table_id key.cells.value
+    (layout_in self.names self.limit) c.args.passes (omega (arith, some, long)) c.requires.own in
+    let Ends : Histories → Type 0 = λ hs. (ns : List NameShards)
+    → length cells ≡ cells_in ns + 1 → hs ≡ histories_in ns (map log_of_cell cells) in
+    ok-also Ends (λ hs. length hs.shards ≡ cells_in self.names) c.into_histories.result
+    (λ hs ends. closed-counted self.names self.limit self.passes cells hs (map about_in key.cells.value)
+    (map log_of_cell key.cells.value) key.numbers.value opened.told opened.empty self.numbered
+    c.close.ensures.lawful c.close.ensures.about ends)
+    c.into_histories.ensures
+
+pub returns-clause-signed : goal.returns-clause-signed
+returns-clause-signed c =
+    let self = c.args.self in
+    let key = self.table.board.shared.key in
+    let cells = c.close.result in
+    let some = some-pass self.passes (map number_of c.args.passes) self.some c.requires.all in
+    let long : length (map number_of c.args.passes) ≡ length c.args.passes = simp length-map in
+    let opened = opened-by self.table.board.shared.table_id key.cells.value
+    (layout_in self.names self.limit) c.args.passes (omega (arith, some, long)) c.requires.own in
+    let Ends : Histories → Type 0 = λ hs. (ns : List NameShards)
+    → length cells ≡ cells_in ns + 1 → hs ≡ histories_in ns (map log_of_cell cells) in
+    ok-also Ends (λ hs. All (All (λ entry. Contains (numbers_to self.passes) (author_of entry)))
+    (logs_in hs.shards hs.book)) c.into_histories.result
+    (λ hs ends. closed-signed self.names self.limit self.passes cells hs (map about_in key.cells.value)
+    (map log_of_cell key.cells.value) key.numbers.value opened.told opened.empty self.numbered
+    c.close.ensures.lawful c.close.ensures.about ends c.close.ensures.written)
+    c.into_histories.ensures
+
+pub returns-clause-seen : goal.returns-clause-seen
+returns-clause-seen c =
+    let self = c.args.self in
+    let key = self.table.board.shared.key in
+    let cells = c.close.result in
+    let some = some-pass self.passes (map number_of c.args.passes) self.some c.requires.all in
+    let long : length (map number_of c.args.passes) ≡ length c.args.passes = simp length-map in
+    let opened = opened-by self.table.board.shared.table_id key.cells.value
+    (layout_in self.names self.limit) c.args.passes (omega (arith, some, long)) c.requires.own in
+    let Ends : Histories → Type 0 = λ hs. (ns : List NameShards)
+    → length cells ≡ cells_in ns + 1 → hs ≡ histories_in ns (map log_of_cell cells) in
+    ok-also Ends (λ hs. All (λ pass. GrewBy (λ entry. author_of entry ≢ number_of pass)
+    (writer_of pass).seen (logs_in hs.shards hs.book)) c.args.passes) c.into_histories.result
+    (λ hs ends. subst (λ logs. All (λ pass. GrewBy (λ entry. author_of entry ≢ number_of pass)
+    (writer_of pass).seen logs) c.args.passes)
+    (sym (closed-logs self.names self.limit self.passes cells hs (map about_in key.cells.value)
+    (map log_of_cell key.cells.value) key.numbers.value opened.told opened.empty self.numbered
+    c.close.ensures.lawful c.close.ensures.about ends))
+    (seen-all self.table.board.shared.table_id key.cells.value (layout_in self.names self.limit)
+    (map log_of_cell cells) c.args.passes c.requires.own
+    (subst (All (λ (p : TablePass). GrewBy (λ entry. author_of entry ≢ (known p).number)
+    (known p).seen (map log_of_cell cells))) c.in_ok-inside.ensures c.close.ensures.seen)))
+    c.into_histories.ensures

@@ -1,0 +1,22 @@
+use Rattle.std.proofs.Common.{◌≡◌, Some, sym, ap, ◌∙◌, subst}
+use Rattle.running_site.specs.Passes.{sight_where, writer_where}
+use Rattle.running_site.proofs.VisitLemmas.{came-visit}
+use Rattle.running_site.proofs.visiting.SiteOf+SiteCell.visit.Goals as goal
+
+pub invariant_of-result : goal.invariant_of-result
+invariant_of-result g c =
+    let site = c.args.self.now in
+    let here = came-visit site.table.board.shared.table_id
+    site.table.board.shared.key.cells.value site.names site.limit
+    c.args.pass.now.pass c.in-Some.inside (sym c.take.ensures.value ∙ c.in-Some.is) c.requires in
+    record { seated = here.0; opened = c.requires.opened; visit = here.1 }
+
+pub returns-clause-writer : goal.returns-clause-writer
+returns-clause-writer g c =
+    let there = sym c.take.ensures.value ∙ c.in-Some.is in
+    let marks = ap (λ v. v.items) c.replace-marks.ensures.value in
+    let own = ap (λ v. v.items) c.replace-own.ensures.value in
+    λ i. writer_where (sym there i) (marks i) (own i)
+
+pub returns-clause-sight : goal.returns-clause-sight
+returns-clause-sight g c = ap sight_where (sym (sym c.take.ensures.value ∙ c.in-Some.is))

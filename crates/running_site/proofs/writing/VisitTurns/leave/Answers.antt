@@ -1,0 +1,42 @@
+use Rattle.std.proofs.Common.{◌≡◌, Some, sym, refl, ap, ◌∙◌, subst}
+use Rattle.turn_table.specs.Calls.{known}
+use Rattle.running_site.specs.Passes.{writer_in}
+use Rattle.running_site.specs.Visits.{IsVisit}
+use Rattle.running_site.proofs.LeaveLemmas.{gave-later, gave-visit}
+use Rattle.running_site.proofs.writing.VisitTurns.leave.Goals as goal
+
+pub give-requires-clause-turn : goal.give-requires-clause-turn
+give-requires-clause-turn g c =
+    let v = c.args.self.now in
+    let visit = subst (IsVisit v.site.now.names v.site.now.limit (known v.pass))
+    (sym c.take.ensures.value ∙ c.in-Some.is) v.visit in
+    (visit.holding c.in-Some.turn refl).in_hand
+
+pub give-requires-clause-about : goal.give-requires-clause-about
+give-requires-clause-about g c =
+    let v = c.args.self.now in
+    let visit = subst (IsVisit v.site.now.names v.site.now.limit (known v.pass))
+    (sym c.take.ensures.value ∙ c.in-Some.is) v.visit in
+    (visit.holding c.in-Some.turn refl).suits
+
+pub invariant_of-self : goal.invariant_of-self
+invariant_of-self g c =
+    let v = c.args.self.now in
+    let visit = subst (IsVisit v.site.now.names v.site.now.limit (known v.pass))
+    (sym c.take.ensures.value ∙ c.in-Some.is) v.visit in
+    record {
+      seated = c.give.ensures.own ∙ v.seated;
+      opened = v.opened;
+      visit = subst (IsVisit v.site.now.names v.site.now.limit (known c.give.new.pass))
+          (sym c.take.ensures.after)
+          (gave-visit v.site.now.names v.site.now.limit (known v.pass) (known c.give.new.pass)
+          c.in-Some.turn c.give.ensures.gave visit c.give.ensures.free);
+    }
+
+pub returns-in-Some-clause-later : goal.returns-in-Some-clause-later
+returns-in-Some-clause-later g c =
+    let v = c.args.self.now in (
+      refl,
+      gave-later v.site.now.names v.site.now.limit (known v.pass) (known c.give.new.pass)
+          c.in-Some.turn c.give.ensures.gave,
+    )

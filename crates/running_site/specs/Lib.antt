@@ -1,0 +1,4 @@
+pub mod Passes
+pub mod Visits
+pub mod Seals
+pub mod Records

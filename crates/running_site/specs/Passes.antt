@@ -1,0 +1,109 @@
+-- What a pass of a site is seen as, and what is true of it between two calls (own).
+use Rattle.std.specs.Prelude.{ℕ, zero, suc, ◌≡◌, ◌<◌, ◌+◌, ◌++◌, ◌∷◌, [], List, Option, None, Some, get_or, length, map, replicate, slice_index, take}
+use Rattle.tuple_values.specs.declared.names.NameShards.{NameShards}
+use Rattle.atomic_table.specs.Seated.{TableId}
+use Rattle.shard_versions.specs.declared.cut.CutMark.{CutMark}
+use Rattle.shard_versions.specs.declared.cut.OwnMark.{OwnMark}
+use Rattle.exchange_rules.specs.declared.log_entry.LogEntry.{LogEntry}
+use Rattle.exchange_rules.specs.Cells.{Log}
+use Rattle.exchange_rules.specs.Following.{Writer}
+use Rattle.exchange_rules.specs.Rows.{Layout}
+use Rattle.site_laws.specs.Looks.{last_seen, Sight}
+use Rattle.site_laws.specs.declared.cell_about.CellAbout.{CellAbout}
+use Rattle.turn_table.specs.Calls.{known, table_of}
+use Rattle.turn_table.specs.Knowledge.{IsFree}
+use Rattle.turn_table.specs.declared.knowledge.Known.{Known}
+use Rattle.turn_table.specs.declared.pass.Pass.{Pass}
+use Rattle.site_cells.specs.Cells.{abouts_of, no_logs}
+use Rattle.site_cells.specs.Values.{about_in, log_of_cell}
+use Rattle.topic_book.specs.Cells.{cells_in}
+use Rattle.site_cells.specs.declared.site_cell.SiteCell.{SiteCell}
+use Rattle.running_site.specs.declared.pass.PassOf.{PassOf}
+
+-- a pass of the site's table
+abbrev pub TablePass : Type 0
+TablePass = Pass SiteCell CellAbout LogEntry
+
+-- the writer that a pass with this record is
+abbrev pub writer_in : Known CellAbout LogEntry → List CutMark → List OwnMark → Writer
+writer_in k marks own = record {
+  me = k.number;
+  seen = k.seen;
+  marks = marks;
+  own = own;
+  looks = k.looks;
+}
+
+-- what it has seen, and when
+abbrev pub sight_in : Known CellAbout LogEntry → Sight
+sight_in k = record { seen = k.seen; looks = k.looks; asof = k.asof }
+
+-- the collections, and the limit
+abbrev pub layout_in : List NameShards → ℕ → Layout
+layout_in names limit = record { names = names; limit = limit }
+
+-- the writer that a pass is; one that is away in a call has seen nothing
+abbrev pub writer_where : Option TablePass → List CutMark → List OwnMark → Writer
+writer_where None marks own =
+    record { me = 0; seen = []; marks = marks; own = own; looks = [] }
+writer_where (Some p) marks own = writer_in (known p) marks own
+
+abbrev pub writer_of : PassOf TablePass → Writer
+writer_of pass = writer_where pass.pass pass.marks.items pass.own.items
+
+-- the number of a pass
+abbrev pub number_of : PassOf TablePass → ℕ
+number_of pass = (writer_of pass).me
+
+-- its sight
+abbrev pub sight_where : Option TablePass → Sight
+sight_where None = record { seen = []; looks = []; asof = [] }
+sight_where (Some p) = sight_in (known p)
+
+abbrev pub sight_of : PassOf TablePass → Sight
+sight_of pass = sight_where pass.pass
+
+-- each log that was seen early begins what was seen late
+abbrev pub WereSeen : List Log → List Log → Type 0
+WereSeen early late =
+    (cell : ℕ) → take (length (get_or early cell [])) (get_or late cell []) ≡ get_or early cell []
+
+-- a pass that is told which cells there are, and has seen all that its looks showed
+pub record IsKnowing (names : List NameShards) (limit : ℕ) (k : Known CellAbout LogEntry)
+    : Type 0 where
+  pub about : k.about ≡ abouts_of names limit
+  pub since : (cell : ℕ) → 0 < slice_index k.looks cell
+      → WereSeen (last_seen (sight_in k) cell) k.seen
+
+-- the cells with which a site of these collections started: all had no entry
+pub record IsOpened (names : List NameShards) (limit : ℕ) (cells : List SiteCell) : Type 0 where
+  pub told : map about_in cells ≡ abouts_of names limit
+  pub empty : map log_of_cell cells ≡ no_logs names
+
+-- the pass was made for this table, which started with these cells, and has no turn
+pub record IsPassIn (table : TableId) (cells : List SiteCell) (l : Layout) (p : Option TablePass)
+    : Type 0 where
+  pub opened : IsOpened l.names l.limit cells
+  pub inside : TablePass
+  pub there : p ≡ Some inside
+  pub table_is : table_of inside ≡ table
+  pub knowing : IsKnowing l.names l.limit (known inside)
+  pub free : IsFree (known inside)
+
+abbrev pub IsPassOf : TableId → List SiteCell → Layout → PassOf TablePass → Type 0
+IsPassOf table cells l pass = IsPassIn table cells l pass.pass
+
+-- the numbers from 1 to the count
+abbrev pub numbers_to : ℕ → List ℕ
+numbers_to zero = []
+numbers_to (suc n) = numbers_to n ++ suc n ∷ []
+
+-- the writer that a pass with this number is before its first call
+abbrev pub new_writer : List NameShards → ℕ → Writer
+new_writer names number = record {
+  me = number;
+  seen = no_logs names;
+  marks = [];
+  own = [];
+  looks = replicate (cells_in names + 1) 0;
+}

@@ -1,0 +1,24 @@
+-- Passes with their records (own).
+use Rattle.std.specs.Prelude.{◌++◌, ◌∷◌, [], List, Option, None, Some}
+use Rattle.shard_versions.specs.declared.cut.CutMark.{CutMark}
+use Rattle.shard_versions.specs.declared.cut.OwnMark.{OwnMark}
+use Rattle.running_site.specs.Passes.{TablePass}
+use Rattle.running_site.specs.declared.pass.PassOf.{PassOf}
+
+-- what a pass has: its pass of the table, and its record
+abbrev pub content : PassOf TablePass → Option TablePass × List CutMark × List OwnMark
+content pass = (pass.pass, pass.marks.items, pass.own.items)
+
+-- this pass of the table with an empty record
+abbrev pub recorded : TablePass → Option TablePass × List CutMark × List OwnMark
+recorded pass = (Some pass, [], [])
+
+-- the pass of the table, where it is there
+abbrev pub inside_of : Option TablePass → List TablePass
+inside_of None = []
+inside_of (Some pass) = pass ∷ []
+
+-- the passes of the table
+abbrev pub passes_in : List (PassOf TablePass) → List TablePass
+passes_in [] = []
+passes_in (pass ∷ passes) = inside_of pass.pass ++ passes_in passes

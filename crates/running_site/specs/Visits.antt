@@ -1,0 +1,47 @@
+-- What is true of a pass at its site, with the turn that it has or with none (own).
+use Rattle.std.specs.Prelude.{ℕ, ◌≡◌, ◌≢◌, ◌<◌, List, length, slice_get, Option, Some, None}
+use Rattle.tuple_values.specs.declared.names.NameShards.{NameShards}
+use Rattle.topic_book.specs.Cells.{cells_in}
+use Rattle.topic_book.specs.Books.{binding_of, Book}
+use Rattle.topic_book.specs.Fitness.{shards_of}
+use Rattle.topic_book.specs.declared.topic.Binding.{Binding}
+use Rattle.topic_book.specs.declared.topic.TopicKey.{TopicKey}
+use Rattle.exchange_rules.specs.Cells.{book_in}
+use Rattle.exchange_rules.specs.declared.log_entry.LogEntry.{LogEntry}
+use Rattle.site_laws.specs.declared.cell_about.CellAbout.{CellAbout}
+use Rattle.turn_table.specs.Calls.{turn_about, turn_history}
+use Rattle.turn_table.specs.Histories.{at}
+use Rattle.turn_table.specs.Knowledge.{hand, IsFree}
+use Rattle.turn_table.specs.declared.knowledge.Known.{Known}
+use Rattle.turn_table.specs.declared.turn.Turn.{Turn}
+use Rattle.site_cells.specs.Values.{about_in, log_of_cell}
+use Rattle.site_cells.specs.declared.site_cell.SiteCell.{SiteCell}
+use Rattle.running_site.specs.Passes.{IsKnowing}
+
+-- each topic that is bound in the book has an initial number for each shard of its source
+abbrev pub AreCounted : List NameShards → Book → Type 0
+AreCounted names book = (key : TopicKey) (b : Binding) → binding_of key book ≡ Some b
+    → length b.init ≡ shards_of names b.src
+
+-- this cell's turn is there
+abbrev pub HasTurn : Option (Turn SiteCell) → ℕ → Type 0
+HasTurn None cell = ⊥
+HasTurn (Some turn) cell = turn.cell ≡ cell
+
+-- the one turn of a pass, which has looked in it; the topics that it has seen are counted by these collections
+pub record IsTurn (names : List NameShards) (k : Known CellAbout LogEntry) (turn : Turn SiteCell)
+    : Type 0 where
+  pub within : turn.cell < length k.seen
+  pub in_hand : hand k turn.cell ≡ Some (turn_history log_of_cell turn)
+  pub others : (cell : ℕ) → cell ≢ turn.cell → hand k cell ≡ None
+  pub whole : at k.seen turn.cell ≡ turn_history log_of_cell turn
+  pub suits : turn_about about_in turn ≡ slice_get k.about turn.cell
+  pub topics : turn.cell ≡ cells_in names
+      → AreCounted names (book_in (turn_history log_of_cell turn))
+
+-- the pass has just this turn, or none
+pub record IsVisit (names : List NameShards) (limit : ℕ) (k : Known CellAbout LogEntry)
+    (turn : Option (Turn SiteCell)) : Type 0 where
+  pub knowing : IsKnowing names limit k
+  pub idle : turn ≡ None → IsFree k
+  pub holding : (t : Turn SiteCell) → turn ≡ Some t → IsTurn names k t

@@ -1,0 +1,20 @@
+//! A site that threads share: each cell is looked at and written to under its turn, by passes.
+#![tactic(auto)]
+
+mod calls;
+mod empty;
+mod numbers;
+mod opening;
+mod pass;
+mod record;
+mod sealing;
+mod site;
+mod visit;
+mod visiting;
+mod writing;
+
+pub use exchange_rules::{Batch, BatchItem, LogEntry, Sent, SiteFault};
+pub use once_core::Histories;
+pub use pass::{Pass, PassOf, Passes};
+pub use shard_versions::{Cut, CutMark, CutMarks, CutPart, OwnMark, OwnMarks, Record};
+pub use site::{Site, SiteOf};

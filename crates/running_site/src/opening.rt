@@ -1,0 +1,83 @@
+// The start of a site, and its end.
+ghost use Rattle.std.specs.Prelude.{◌≡◌, ◌≢◌, ◌<◌, ◌≤◌, All, Contains, IfOk, length, map};
+ghost use Rattle.topic_book.specs.Cells.{cells_in};
+ghost use Rattle.once_core.specs.Law.{IsLaw};
+ghost use Rattle.exchange_rules.specs.Cells.{author_of};
+ghost use Rattle.turn_table.specs.Histories.{GrewBy};
+ghost use Rattle.stream_site.specs.Plains.{logs_in};
+ghost use Rattle.running_site.specs.Passes.{layout_in, new_writer, number_of, numbers_to, writer_of, IsPassOf};
+
+use crate::empty::empty_cells;
+use crate::numbers::numbers_to;
+use crate::record::{with_records, without_records};
+use crate::{Passes, Site, SiteOf};
+use once_core::Histories;
+use site_cells::{SiteCell, into_histories};
+use std::alloc::Global;
+use tuple_values::{Memory, Names};
+use turn_table::TurnTable;
+
+/// How many cells a table of turns can't have.
+const CELLS: usize = 0x4000_0000;
+
+impl SiteOf<SiteCell> {
+    /// The site of these collections with no entry, and a limit on the counted bytes of each shard;
+    /// and so many passes, with the numbers from 1 on.
+    pub fn start(
+        alloc: Global,
+        names: Names,
+        passes: u64,
+        limit: u64,
+    ) -> Result<(Site, Passes), Memory>
+        requires some { 0 < passes }
+        requires limit { limit ≤ 268435456 }
+        ensures site { IfOk result (λ made. (made.0.names ≡ names) × (made.0.limit ≡ limit)
+            × (made.0.passes ≡ passes)) }
+        ensures own { IfOk result (λ made. All (IsPassOf made.0.table.board.shared.table_id
+            made.0.table.board.shared.key.cells.value (layout_in made.0.names made.0.limit)) made.1) }
+        ensures new { IfOk result (λ made. map writer_of made.1
+            ≡ map (new_writer names) (numbers_to passes)) }
+    {
+        let cells = empty_cells(alloc, &names, limit)?;
+        if cells.len() >= CELLS {
+            return Err(Memory::OutOfMemory);
+        }
+        let numbers = numbers_to(alloc, passes)?;
+        let (table, inside) = TurnTable::start(alloc, cells, numbers)?;
+        let made = with_records(alloc, inside)?;
+        let site = SiteOf {
+            table,
+            names,
+            limit,
+            passes,
+        };
+        Ok((site, made))
+    }
+
+    /// Ends the site, and gives its histories. It takes all passes that were made for it.
+    pub fn close(self, alloc: Global, passes: Passes) -> Result<Histories, Memory>
+        requires own { All (IsPassOf self.table.board.shared.table_id
+            self.table.board.shared.key.cells.value
+            (layout_in self.names self.limit)) passes }
+        requires all { All (λ number. Contains (map number_of passes) number)
+            (numbers_to self.passes) }
+        ensures law { IfOk result (λ histories. IsLaw self.names histories) }
+        ensures counted { IfOk result (λ histories. length histories.shards ≡ cells_in self.names) }
+        ensures seen { IfOk result (λ histories. All (λ pass.
+            GrewBy (λ entry. author_of entry ≢ number_of pass) (writer_of pass).seen
+            (logs_in histories.shards histories.book)) passes) }
+        ensures signed { IfOk result (λ histories. All (All (λ entry.
+            Contains (numbers_to self.passes) (author_of entry)))
+            (logs_in histories.shards histories.book)) }
+    {
+        let SiteOf {
+            table,
+            names,
+            limit: _,
+            passes: _,
+        } = self;
+        drop(names);
+        let inside = without_records(alloc, passes)?;
+        into_histories(alloc, table.close(inside))
+    }
+}

@@ -1,0 +1,60 @@
+// Passes of a table with records, and without them.
+ghost use Rattle.std.specs.Prelude.{◌≡◌, ◌++◌, IfOk, OnOk, map};
+ghost use Rattle.running_site.specs.Records.{content, inside_of, passes_in, recorded};
+
+use crate::pass::TablePass;
+use crate::{Pass, PassOf, Passes};
+use std::alloc::Global;
+use tuple_values::{Memory, Sequence};
+
+/// The pass with an empty record.
+fn with_record(alloc: Global, pass: TablePass) -> Pass
+    ensures { content result ≡ recorded pass }
+{
+    PassOf {
+        alloc,
+        pass: Some(pass),
+        marks: Vec::new(alloc),
+        own: Vec::new(alloc),
+    }
+}
+
+/// Each pass with an empty record.
+pub(crate) fn with_records(alloc: Global, passes: Sequence<TablePass>) -> Result<Passes, Memory>
+    ensures { IfOk result (λ made. map content made ≡ map recorded passes) }
+{
+    let mut made = Passes::new(alloc);
+    for pass in passes.into_vec() {
+        made.push(with_record(alloc, pass))?;
+    }
+    Ok(made)
+}
+
+/// The pass behind the others, where it is there.
+fn keep(passes: &mut Sequence<TablePass>, pass: Option<TablePass>) -> Result<(), Memory>
+    ensures { OnOk result (passes.new ≡ passes.old ++ inside_of pass) }
+{
+    match pass {
+        Some(inside) => passes.push(inside),
+        None => Ok(()),
+    }
+}
+
+/// The passes alone.
+pub(crate) fn without_records(alloc: Global, passes: Passes) -> Result<Sequence<TablePass>, Memory>
+    ensures { IfOk result (λ made. made ≡ passes_in passes) }
+{
+    let mut made = Sequence::new(alloc);
+    for one in passes.into_vec() {
+        let PassOf {
+            alloc: _,
+            pass,
+            marks,
+            own,
+        } = one;
+        drop(marks);
+        drop(own);
+        keep(&mut made, pass)?;
+    }
+    Ok(made)
+}

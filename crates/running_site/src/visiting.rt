@@ -1,0 +1,67 @@
+// How a pass comes to its site for a call, and goes.
+ghost use Rattle.std.specs.Prelude.{◌≡◌, None};
+ghost use Rattle.turn_table.specs.Calls.{known};
+ghost use Rattle.running_site.specs.Passes.{layout_in, sight_in, sight_of, writer_in, writer_of, IsPassOf};
+
+use crate::visit::Visit;
+use crate::{Pass, Site, SiteOf};
+use site_cells::SiteCell;
+use std::mem::replace;
+
+impl SiteOf<SiteCell> {
+    /// The pass with its record comes to the site.
+    pub(crate) fn visit<'a, R>(&'a self, rt: &'a R, pass: &mut Pass) -> Visit<'a, R>
+        requires { IsPassOf self.now.table.board.shared.table_id
+            self.now.table.board.shared.key.cells.value
+            (layout_in self.now.names self.now.limit) pass.old }
+        ensures site { result.site.now ≡ self.now }
+        ensures free { result.turn ≡ None }
+        ensures writer { writer_in (known result.pass) result.marks.items result.own.items
+            ≡ writer_of pass.old }
+        ensures sight { sight_in (known result.pass) ≡ sight_of pass.old }
+    {
+        let alloc = pass.alloc;
+        let Some(inside) = pass.pass.take() else {
+            unreachable!()
+        };
+        let marks = replace(&mut pass.marks, Vec::new(alloc));
+        let own = replace(&mut pass.own, Vec::new(alloc));
+        Visit {
+            rt,
+            alloc,
+            site: self,
+            pass: inside,
+            turn: None,
+            marks,
+            own,
+        }
+    }
+}
+
+/// The pass goes with its record.
+pub(crate) fn end<R>(visit: Visit<'_, R>, pass: &mut Pass)
+    requires { visit.turn ≡ None }
+    ensures own { IsPassOf visit.entry.site.now.table.board.shared.table_id
+        visit.entry.site.now.table.board.shared.key.cells.value
+        (layout_in visit.entry.site.now.names visit.entry.site.now.limit) pass.new }
+    ensures writer { writer_of pass.new ≡ writer_in (known visit.entry.pass)
+        visit.entry.marks.items visit.entry.own.items }
+    ensures sight { sight_of pass.new ≡ sight_in (known visit.entry.pass) }
+{
+    let Visit {
+        rt: _,
+        alloc: _,
+        site: _,
+        pass: inside,
+        turn,
+        marks,
+        own,
+    } = visit;
+    match turn {
+        Some(_) => unreachable!(),
+        None => {}
+    }
+    pass.pass = Some(inside);
+    pass.marks = marks;
+    pass.own = own;
+}
