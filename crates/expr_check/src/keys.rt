@@ -1,16 +1,18 @@
 // The keys that a function gives, and whether a parallel has those of its input.
 ghost use Rattle.std.specs.Prelude.{◌≡◌, IfOk};
+ghost use Rattle.std.specs.List.{list_all};
 ghost use Rattle.std.specs.Option.{option_or};
 ghost use Rattle.expr_types.specs.ExprTree.{expr_tree, operator_in};
 ghost use Rattle.expr_types.specs.Names.{function_name};
 ghost use Rattle.expr_check.specs.Faults.{parted_fault};
+ghost use Rattle.expr_check.specs.Partitions.{has_term, holds_keys};
 ghost use Rattle.expr_check.specs.Rules.{keys_given, parted_at};
 ghost use Rattle.expr_check.specs.Walk.{unkeyed};
 ghost use Rattle.expr_check.specs.declared.fault.CheckFault.TheVariants.{NotPartitioned};
 
 use crate::CheckFault;
 use crate::pairing::{filtered_keys, paired_keys};
-use crate::partitions::{chosen_keys, first_keys, holds_keys, kept_keys, merged_keys, search_keys};
+use crate::partitions::{chosen_keys, first_keys, kept_keys, merged_keys, search_keys};
 use crate::places::{first_of, second_of};
 use expr_types::Expr;
 use sort_spec::SortSpec;
@@ -77,6 +79,40 @@ pub(crate) fn keyless_at(
             Some(_) => Ok(None),
             None => Ok(Some(Text::of(alloc, expr.function())?)),
         },
+    }
+}
+
+// Whether a sort has a term of this field.
+fn has_term(by: &SortSpec, field: &str) -> bool
+    ensures { result ≡ has_term by.now field.now }
+{
+    for term in by.as_slice() {
+        if term.field.as_str() == field {
+            return true;
+        }
+    }
+    false
+}
+
+// Whether a sort has a term of each key.
+fn has_terms(by: &SortSpec, keys: &FieldList) -> bool
+    ensures { result ≡ list_all (has_term by.now) keys.now }
+{
+    for key in keys.as_slice() {
+        if !has_term(by, key.as_str()) {
+            return false;
+        }
+    }
+    true
+}
+
+// Whether a sort has a term of each key, where there are keys.
+fn holds_keys(by: &SortSpec, keys: &Option<FieldList>) -> bool
+    ensures { result ≡ holds_keys by.now keys.now }
+{
+    match keys {
+        None => false,
+        Some(keys) => has_terms(by, keys),
     }
 }
 

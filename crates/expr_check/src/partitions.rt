@@ -5,11 +5,10 @@ ghost use Rattle.expr_types.specs.ExprTree.{first_or};
 ghost use Rattle.expr_check.specs.Orders.{new_name};
 ghost use Rattle.expr_check.specs.Partitions.{are_among, kept_keys, search_keys, kept_name};
 ghost use Rattle.expr_check.specs.Partitions.{renamed, chosen_keys, same_names, same_keys};
-ghost use Rattle.expr_check.specs.Partitions.{are_merged, merged_keys, has_term, holds_keys};
+ghost use Rattle.expr_check.specs.Partitions.{are_merged, merged_keys};
 
 use crate::orders::{is_touched_once, new_name};
 use expr_types::{Item, Items};
-use sort_spec::SortSpec;
 use std::alloc::Global;
 use tuple_values::{FieldList, Memory, Text, TryCopy};
 
@@ -166,39 +165,5 @@ pub(crate) fn merged_keys(keys: Vec<Option<FieldList>>) -> Option<FieldList>
         first_keys(keys)
     } else {
         None
-    }
-}
-
-// Whether a sort has a term of this field.
-fn has_term(by: &SortSpec, field: &str) -> bool
-    ensures { result ≡ has_term by.now field.now }
-{
-    for term in by.as_slice() {
-        if term.field.as_str() == field {
-            return true;
-        }
-    }
-    false
-}
-
-// Whether a sort has a term of each key.
-fn has_terms(by: &SortSpec, keys: &FieldList) -> bool
-    ensures { result ≡ list_all (has_term by.now) keys.now }
-{
-    for key in keys.as_slice() {
-        if !has_term(by, key.as_str()) {
-            return false;
-        }
-    }
-    true
-}
-
-/// Whether a sort has a term of each key, where there are keys.
-pub(crate) fn holds_keys(by: &SortSpec, keys: &Option<FieldList>) -> bool
-    ensures { result ≡ holds_keys by.now keys.now }
-{
-    match keys {
-        None => false,
-        Some(keys) => has_terms(by, keys),
     }
 }
