@@ -20,8 +20,6 @@ mod reads;
 mod roots;
 mod rules;
 mod standing;
-#[cfg(test)]
-mod tests;
 mod texts;
 mod walk;
 mod walked;

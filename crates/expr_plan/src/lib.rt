@@ -15,8 +15,6 @@ mod planning;
 mod reading;
 mod row;
 mod table;
-#[cfg(test)]
-mod tests;
 mod walk;
 mod words;
 

@@ -5,8 +5,6 @@ mod any_kernel;
 mod opening;
 mod over_inputs;
 mod stream;
-#[cfg(test)]
-mod tests;
 
 pub use opening::{Feeds, open_stream};
 pub use stream::{Stream, drain};

@@ -1,11 +1,12 @@
 // What no clause can say: that the courses and replies mean what the rules say, and that each call
-// that takes memory succeeds. Of two shards the second holds id `2` and the first id `3`.
+// that takes memory succeeds, and that a stream may be given to another thread. Of two shards the second holds id `2` and the first id `3`.
 use crate::{End, SessionEnd, run_expression, run_request, serve_connection};
 use expr_check::Roots;
 use form_request::{Handler, Param, Params, Request};
 use io_edge::{MemorySink, MemorySource};
 use std::alloc::Global;
 use std::test::Fail;
+use stream_engine::Stream;
 use stream_site::PlainSite;
 use tuple_values::{Bytes, Memory, NameShards, Names, Numbers, Text};
 
@@ -212,4 +213,11 @@ fn a_connection_ends_at_what_is_refused_or_cut(rt: HostRuntime) -> Result<(), Fa
     let (ended, _) = serve(alloc, "\r\n")?;
     assert!(rt; ended.end == End::Ended);
     Ok(())
+}
+
+fn is_sent<T: Send>() {}
+
+#[test]
+fn a_stream_goes_to_other_threads(_rt: HostRuntime) {
+    is_sent::<Stream>();
 }
