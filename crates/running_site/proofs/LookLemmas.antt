@@ -118,7 +118,11 @@ module _ (k k1 k2 : Known CellAbout LogEntry) (cell count : ℕ) (t : Turn SiteC
           topics = topics seen;
         } in
         record {
-          knowing = record { about = about-is ∙ v.knowing.about; since = λ c looked. are-were (last_seen (sight_in k2) c) k2.seen (g.since c looked) };
+          knowing = record {
+            about = about-is ∙ v.knowing.about;
+            since = λ c looked.
+                are-were (last_seen (sight_in k2) c) k2.seen (g.since c looked);
+          };
           idle = λ e. absurd (cc);
           holding = λ u e. let same : t ≡ u = cc in subst (IsTurn names k2) same turn;
         }

@@ -59,78 +59,42 @@ close-requires-clause-all c =
     (sym c.in_ok-inside.ensures)
     (subst (λ numbers. P numbers (numbers_to self.passes)) (sym are.numbers) c.requires.all))
 
-pub returns-clause-law : goal.returns-clause-law
-returns-clause-law c =
+pub returns : goal.returns
+returns c =
     let self = c.args.self in
     let key = self.table.board.shared.key in
     let cells = c.close.result in
-    let some = some-pass self.passes (map number_of c.args.passes) self.some c.requires.all in
-    let long : length (map number_of c.args.passes) ≡ length c.args.passes = simp length-map in
+    let passes = c.args.passes in
+    let some = some-pass self.passes (map number_of passes) self.some c.requires.all in
+    let long : length (map number_of passes) ≡ length passes = simp length-map in
     let opened = opened-by self.table.board.shared.table_id key.cells.value
-    (layout_in self.names self.limit) c.args.passes (omega (arith, some, long)) c.requires.own in
+    (layout_in self.names self.limit) passes (omega (arith, some, long)) c.requires.own in
     let Ends : Histories → Type 0 = λ hs. (ns : List NameShards)
     → length cells ≡ cells_in ns + 1 → hs ≡ histories_in ns (map log_of_cell cells) in
-    ok-also Ends (λ hs. IsLaw self.names hs) c.into_histories.result
-    (λ hs ends. closed-law self.names self.limit self.passes cells hs (map about_in key.cells.value)
-    (map log_of_cell key.cells.value) key.numbers.value opened.told opened.empty self.numbered
-    c.close.ensures.lawful c.close.ensures.about ends)
-    c.into_histories.ensures
-
-pub returns-clause-counted : goal.returns-clause-counted
-returns-clause-counted c =
-    let self = c.args.self in
-    let key = self.table.board.shared.key in
-    let cells = c.close.result in
-    let some = some-pass self.passes (map number_of c.args.passes) self.some c.requires.all in
-    let long : length (map number_of c.args.passes) ≡ length c.args.passes = simp length-map in
-    let opened = opened-by self.table.board.shared.table_id key.cells.value
-    (layout_in self.names self.limit) c.args.passes (omega (arith, some, long)) c.requires.own in
-    let Ends : Histories → Type 0 = λ hs. (ns : List NameShards)
-    → length cells ≡ cells_in ns + 1 → hs ≡ histories_in ns (map log_of_cell cells) in
-    ok-also Ends (λ hs. length hs.shards ≡ cells_in self.names) c.into_histories.result
-    (λ hs ends. closed-counted self.names self.limit self.passes cells hs (map about_in key.cells.value)
-    (map log_of_cell key.cells.value) key.numbers.value opened.told opened.empty self.numbered
-    c.close.ensures.lawful c.close.ensures.about ends)
-    c.into_histories.ensures
-
-pub returns-clause-signed : goal.returns-clause-signed
-returns-clause-signed c =
-    let self = c.args.self in
-    let key = self.table.board.shared.key in
-    let cells = c.close.result in
-    let some = some-pass self.passes (map number_of c.args.passes) self.some c.requires.all in
-    let long : length (map number_of c.args.passes) ≡ length c.args.passes = simp length-map in
-    let opened = opened-by self.table.board.shared.table_id key.cells.value
-    (layout_in self.names self.limit) c.args.passes (omega (arith, some, long)) c.requires.own in
-    let Ends : Histories → Type 0 = λ hs. (ns : List NameShards)
-    → length cells ≡ cells_in ns + 1 → hs ≡ histories_in ns (map log_of_cell cells) in
-    ok-also Ends (λ hs. All (All (λ entry. Contains (numbers_to self.passes) (author_of entry)))
-    (logs_in hs.shards hs.book)) c.into_histories.result
-    (λ hs ends. closed-signed self.names self.limit self.passes cells hs (map about_in key.cells.value)
-    (map log_of_cell key.cells.value) key.numbers.value opened.told opened.empty self.numbered
-    c.close.ensures.lawful c.close.ensures.about ends c.close.ensures.written)
-    c.into_histories.ensures
-
-pub returns-clause-seen : goal.returns-clause-seen
-returns-clause-seen c =
-    let self = c.args.self in
-    let key = self.table.board.shared.key in
-    let cells = c.close.result in
-    let some = some-pass self.passes (map number_of c.args.passes) self.some c.requires.all in
-    let long : length (map number_of c.args.passes) ≡ length c.args.passes = simp length-map in
-    let opened = opened-by self.table.board.shared.table_id key.cells.value
-    (layout_in self.names self.limit) c.args.passes (omega (arith, some, long)) c.requires.own in
-    let Ends : Histories → Type 0 = λ hs. (ns : List NameShards)
-    → length cells ≡ cells_in ns + 1 → hs ≡ histories_in ns (map log_of_cell cells) in
-    ok-also Ends (λ hs. All (λ pass. GrewBy (λ entry. author_of entry ≢ number_of pass)
-    (writer_of pass).seen (logs_in hs.shards hs.book)) c.args.passes) c.into_histories.result
-    (λ hs ends. subst (λ logs. All (λ pass. GrewBy (λ entry. author_of entry ≢ number_of pass)
-    (writer_of pass).seen logs) c.args.passes)
-    (sym (closed-logs self.names self.limit self.passes cells hs (map about_in key.cells.value)
-    (map log_of_cell key.cells.value) key.numbers.value opened.told opened.empty self.numbered
-    c.close.ensures.lawful c.close.ensures.about ends))
-    (seen-all self.table.board.shared.table_id key.cells.value (layout_in self.names self.limit)
-    (map log_of_cell cells) c.args.passes c.requires.own
+    let Seen : List Log → Type 0 = λ logs. All (λ pass.
+    GrewBy (λ entry. author_of entry ≢ number_of pass) (writer_of pass).seen logs) passes in
+    let Signed : List Log → Type 0 = λ logs. All (All (λ entry.
+    Contains (numbers_to self.passes) (author_of entry))) logs in
+    let seen : Seen (map log_of_cell cells) =
+    seen-all self.table.board.shared.table_id key.cells.value (layout_in self.names self.limit)
+    (map log_of_cell cells) passes c.requires.own
     (subst (All (λ (p : TablePass). GrewBy (λ entry. author_of entry ≢ (known p).number)
-    (known p).seen (map log_of_cell cells))) c.in_ok-inside.ensures c.close.ensures.seen)))
-    c.into_histories.ensures
+    (known p).seen (map log_of_cell cells))) c.in_ok-inside.ensures c.close.ensures.seen) in
+    record {
+      law = ok-also Ends (λ hs. IsLaw self.names hs) c.into_histories.result
+          (λ hs ends. closed-law self.names self.limit self.passes cells hs
+          (map about_in key.cells.value) (map log_of_cell key.cells.value) key.numbers.value opened.told
+          opened.empty self.numbered c.close.ensures.lawful c.close.ensures.about ends) c.into_histories.ensures;
+      counted = ok-also Ends (λ hs. length hs.shards ≡ cells_in self.names)
+          c.into_histories.result (λ hs ends. closed-counted self.names self.limit self.passes cells hs
+          (map about_in key.cells.value) (map log_of_cell key.cells.value) key.numbers.value opened.told
+          opened.empty self.numbered c.close.ensures.lawful c.close.ensures.about ends) c.into_histories.ensures;
+      seen = ok-also Ends (λ hs. Seen (logs_in hs.shards hs.book)) c.into_histories.result
+          (λ hs ends. subst Seen (sym (closed-logs self.names self.limit self.passes cells hs
+          (map about_in key.cells.value) (map log_of_cell key.cells.value) key.numbers.value opened.told
+          opened.empty self.numbered c.close.ensures.lawful c.close.ensures.about ends)) seen) c.into_histories.ensures;
+      signed = ok-also Ends (λ hs. Signed (logs_in hs.shards hs.book)) c.into_histories.result
+          (λ hs ends. closed-signed self.names self.limit self.passes cells hs
+          (map about_in key.cells.value) (map log_of_cell key.cells.value) key.numbers.value opened.told
+          opened.empty self.numbered c.close.ensures.lawful c.close.ensures.about ends c.close.ensures.written) c.into_histories.ensures;
+    }
