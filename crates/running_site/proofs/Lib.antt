@@ -14,3 +14,4 @@ pub mod CloseLemmas
 pub mod AppendLemmas
 pub mod StartLemmas
 pub mod VisitLemmas
+pub mod TestLemmas

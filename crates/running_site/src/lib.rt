@@ -9,6 +9,8 @@ mod pass;
 mod record;
 mod sealing;
 mod site;
+#[cfg(test)]
+mod tests;
 mod visit;
 mod visiting;
 mod writing;
