@@ -5,7 +5,6 @@ use Rattle.std.proofs.lemmas.List.{append-nil, take_more}
 use Rattle.std.proofs.lemmas.Bool.Decides.{nat_tests}
 use Rattle.std.proofs.lemmas.Slice.Eq.{bytes_eq-Decides}
 use Rattle.tuple_values.specs.Document.{ByteList, Doc}
-use Rattle.tuple_values.specs.Keys.{hash_of}
 use Rattle.shard_versions.specs.Documents.{id_of}
 use Rattle.shard_versions.specs.declared.entry.Kind.{Kind}
 use Rattle.shard_versions.specs.declared.entry.Kind.TheVariants.{Put, Del, Sent, Mark}
@@ -13,36 +12,17 @@ use Rattle.shard_versions.specs.declared.entry.Entry.{Entry}
 use Rattle.shard_versions.specs.Histories.{History}
 use Rattle.shard_versions.specs.Deliveries.{sent_version, sents, are_below}
 use Rattle.shard_versions.specs.Places.{placed, last_where}
-use Rattle.shard_versions.specs.Indexes.{written_id, is_id, is_write_of, is_delivery, id_tag, delivery_tag, sent_tag, first_place, next_of, nexts_of, before_of, relinked, greater, greatest, so_far, greatests_after}
+use Rattle.shard_versions.specs.Indexes.{written_id, is_id, is_write_of, is_delivery, first_place, next_of, nexts_of, before_of, relinked, greater, greatest, so_far, greatests_after}
 use Rattle.shard_versions.proofs.DeliveryLemmas.{sents-append}
 
 -- an entry that does nothing
 abbrev pub no_entry : Entry
 no_entry = record { by = 0; kind = Mark }
 
--- what writes an id has the id's tag
-pub id_tag-right : (id : ByteList) (k : Kind) → is_write_of id k ≡ true → id_tag (written_id k) ≡ hash_of id
-id_tag-right id k h = go (written_id k) h
-  where
-    go : (w : Option ByteList) → is_id id w ≡ true → id_tag w ≡ hash_of id
-    go None h = absurd (cc)
-    go (Some other) h = ap hash_of (sym ((bytes_eq-Decides id other).0 h))
-
 -- two tests that both hold
-and-both : (a b : Bool) → (a && b) ≡ true → (a ≡ true) × (b ≡ true)
+pub and-both : (a b : Bool) → (a && b) ≡ true → (a ≡ true) × (b ≡ true)
 and-both true b h = (refl, h)
 and-both false b h = absurd (cc)
-
--- a delivery has the tag of its source and id
-pub sent_tag-right : (src id : ByteList) (k : Kind) → is_delivery src id k ≡ true → sent_tag k ≡ delivery_tag src id
-sent_tag-right src id (Put d) h = absurd (cc)
-sent_tag-right src id (Del i) h = absurd (cc)
-sent_tag-right src id Mark h = absurd (cc)
-sent_tag-right src id (Sent s v d) h =
-    let b = and-both (bytes_eq src s) (bytes_eq id (id_of d)) h in
-    let e : src ≡ s = (bytes_eq-Decides src s).0 b.0 in
-    let f : id ≡ id_of d = (bytes_eq-Decides id (id_of d)).0 b.1 in
-    rw (e, f) refl
 
 -- the first place with one more entry, whose place is given
 abbrev first_after : ℕ → Bool → ℕ → ℕ

@@ -2,8 +2,10 @@ pub mod ListLemmas
 pub mod VersionLemmas
 pub mod DeliveryLemmas
 pub mod PlaceLemmas
-pub mod ChainLemmas
+pub mod TreeLemmas
+pub mod GrowthLemmas
 pub mod IndexLemmas
+pub mod FindLemmas
 pub mod SentLemmas
 pub mod SettledLemmas
 pub mod ByteLemmas

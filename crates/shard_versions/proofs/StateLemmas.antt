@@ -29,15 +29,6 @@ pub greatests_with : (h : History) (e : Entry) (gs : List ℕ) (g : ℕ) → gs 
     → g ≡ so_far h e.kind → gs ++ g ∷ [] ≡ greatests_after [] (h ++ e ∷ [])
 greatests_with h e gs g is f = rw (is, f) (sym (greatests_after-push [] h e))
 
--- the tags with one more
-pub tags_with : (f : Entry → ℕ) (h : History) (e : Entry) (ts : List ℕ) (t : ℕ) → ts ≡ map f h → t ≡ f e
-    → ts ++ t ∷ [] ≡ map f (h ++ e ∷ [])
-tags_with f h e ts t is g = rw (is, g) (sym (pushed h))
-  where
-    pushed : (h : History) → map f (h ++ e ∷ []) ≡ map f h ++ f e ∷ []
-    pushed [] = refl
-    pushed (x ∷ h) = ap (λ r. f x ∷ r) (pushed h)
-
 -- where the last Mark stands, with one more entry
 pub closed_with : (h : History) (e : Entry) (closed place now : ℕ) → closed ≡ length (settled h)
     → place ≡ length h + 1 → now ≡ cond (is_mark e.kind) place closed → now ≡ length (settled (h ++ e ∷ []))

@@ -2,7 +2,6 @@
 -- version that was delivered so far (own).
 use Rattle.std.specs.Prelude.{ℕ, zero, suc, ◌+◌, ◌*◌, ◌^◌, ◌≡◌, ◌<◌, ◌≤◌, nat_le, nat_lt, max, min, ◌-◌, Bool, false, ◌&&◌, List, [], ◌∷◌, ◌++◌, length, map, slice_set, Option, Some, None, unwrap_or, bytes_eq, if◌then◌else◌}
 use Rattle.tuple_values.specs.Document.{ByteList, Doc}
-use Rattle.tuple_values.specs.Keys.{hash_of}
 use Rattle.shard_versions.specs.Documents.{id_of, with_version}
 use Rattle.shard_versions.specs.Histories.{History, settled}
 use Rattle.shard_versions.specs.Deliveries.{sents}
@@ -33,22 +32,6 @@ is_delivery src id (Put doc) = false
 is_delivery src id (Del other) = false
 is_delivery src id (Sent from version doc) = bytes_eq src from && bytes_eq id (id_of doc)
 is_delivery src id Mark = false
-
--- the tag of an id, and one that no id has
-abbrev pub id_tag : Option ByteList → ℕ
-id_tag None = 2 ^ 32
-id_tag (Some id) = hash_of id
-
--- the tag of a source and an id
-abbrev pub delivery_tag : ByteList → ByteList → ℕ
-delivery_tag src id = hash_of src * 2 ^ 32 + hash_of id
-
--- the tag of a delivery, and 0 for what is none
-abbrev pub sent_tag : Kind → ℕ
-sent_tag (Put doc) = 0
-sent_tag (Del id) = 0
-sent_tag (Sent src version doc) = delivery_tag src (id_of doc)
-sent_tag Mark = 0
 
 -- one more than the place of the first write of the id, where the first entry has the place `at`
 unfoldable pub first_place : ByteList → ℕ → History → ℕ

@@ -8,8 +8,8 @@ pub mod Fitness
 pub mod Sizes
 pub mod Shards
 pub mod Places
-pub mod Links
 pub mod Indexes
+pub mod Trees
 pub mod States
 pub mod Snapshots
 pub mod Readings

@@ -10,8 +10,3 @@ placed (suc n) passes = suc (suc n)
 unfoldable pub last_where : {X : Type 0} → (X → Bool) → List X → ℕ
 last_where test [] = 0
 last_where test (x ∷ xs) = placed (last_where test xs) (test x)
-
--- the tags of a list so far, and for how many more there is room
-pub record Tagged : Type 0 where
-  pub tags : List ℕ
-  pub room : ℕ

@@ -1,10 +1,11 @@
 -- When what a shard keeps beside its entries is right (own).
-use Rattle.std.specs.Prelude.{ℕ, ◌+◌, ◌-◌, ◌^◌, ◌≡◌, ◌<◌, ◌≤◌, min, List, [], length, map, vec_len, vec_capacity}
+use Rattle.std.specs.Prelude.{ℕ, ◌+◌, ◌-◌, ◌^◌, ◌≡◌, ◌<◌, ◌≤◌, min, true, false, List, [], length, map, vec_len, vec_capacity}
 use Rattle.shard_versions.specs.Histories.{settled, slots, last_version}
 use Rattle.shard_versions.specs.Logs.{made_entry, AreMade}
 use Rattle.shard_versions.specs.Sizes.{entries_bytes}
 use Rattle.shard_versions.specs.Fitness.{AreStorable}
-use Rattle.shard_versions.specs.Indexes.{written_id, id_tag, sent_tag, nexts_of, greatests_after}
+use Rattle.shard_versions.specs.Indexes.{nexts_of, greatests_after}
+use Rattle.shard_versions.specs.Trees.{Finds, room_of}
 use Rattle.shard_versions.specs.Shards.{Shard}
 use Rattle.shard_versions.specs.declared.shard.ShardState.TheInside.{Inside}
 
@@ -16,8 +17,8 @@ shard_in s = record { entries = s.log.entries; limit = s.limit; room = s.room; r
 pub record IsState (s : Inside) : Type 0 where
   pub nexts : s.nexts.items ≡ nexts_of 0 s.log.entries
   pub greatests : s.greatests.items ≡ greatests_after [] s.log.entries
-  pub ids : s.ids.tags ≡ map (λ e. id_tag (written_id e.kind)) s.log.entries
-  pub sends : s.sends.tags ≡ map (λ e. sent_tag e.kind) s.log.entries
+  pub ids : Finds false s.ids s.log.entries
+  pub sends : Finds true s.sends s.log.entries
   pub closed : s.closed ≡ length (settled s.log.entries)
   pub bytes : s.bytes ≡ min (entries_bytes s.log.entries) (2 ^ 64 - 1)
   pub ready : AreMade (last_version 0 (slots s.log.entries)) s.ready.items
@@ -26,5 +27,5 @@ pub record IsState (s : Inside) : Type 0 where
   pub room_log : s.room ≤ s.log.room
   pub room_nexts : vec_len s.nexts + s.room ≤ vec_capacity s.nexts
   pub room_greatests : vec_len s.greatests + s.room ≤ vec_capacity s.greatests
-  pub room_ids : s.room ≤ s.ids.room
-  pub room_sends : s.room ≤ s.sends.room
+  pub room_ids : s.room ≤ room_of s.ids
+  pub room_sends : s.room ≤ room_of s.sends

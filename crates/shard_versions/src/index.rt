@@ -1,14 +1,18 @@
 // The indexes of a shard: the last write of an id, and the greatest version that was delivered.
-ghost use Rattle.std.specs.Prelude.{◌≡◌, ◌+◌, ◌<◌, ◌≤◌, [], length, map, option_copied, vec_len, vec_capacity};
+ghost use Rattle.std.specs.Prelude.{◌≡◌, ◌+◌, ◌<◌, ◌≤◌, ◌++◌, ◌∷◌, [], true, false, length, option_copied, vec_len, vec_capacity};
+ghost use Rattle.tuple_values.specs.Document.{ByteList};
+ghost use Rattle.shard_versions.specs.declared.entry.Entry.{Entry};
+ghost use Rattle.shard_versions.specs.Histories.{History};
 ghost use Rattle.shard_versions.specs.Deliveries.{sents};
 ghost use Rattle.shard_versions.specs.Places.{last_where};
-ghost use Rattle.shard_versions.specs.Indexes.{written_id, is_write_of, is_delivery, id_tag, delivery_tag, sent_tag, before_of, relinked, greatest, so_far, greatests_after, is_replaced};
+ghost use Rattle.shard_versions.specs.Indexes.{written_id, is_write_of, is_delivery, before_of, relinked, greatest, so_far, greatests_after, is_replaced};
+ghost use Rattle.shard_versions.specs.Trees.{Finds, room_of};
 
 use crate::Kind;
-use crate::chain::Chain;
 use crate::document::id_of;
+use crate::finding::{last_place, note};
 use crate::log::Log;
-use tuple_values::fnv1a;
+use crate::tree::Tree;
 
 /// The id that the entry writes.
 pub(crate) fn written_id(kind: &Kind) -> Option<&str>
@@ -22,34 +26,6 @@ pub(crate) fn written_id(kind: &Kind) -> Option<&str>
     }
 }
 
-/// The tag of the id that the entry writes, and one that no id has for a Mark.
-pub(crate) fn id_tag(kind: &Kind) -> u64
-    ensures { result ≡ id_tag (written_id kind.now) }
-{
-    match written_id(kind) {
-        Some(id) => u64::from(fnv1a(id.as_bytes())),
-        None => 0x1_0000_0000,
-    }
-}
-
-fn delivery_tag(src: &str, id: &str) -> u64
-    ensures { result ≡ delivery_tag src.now id.now }
-{
-    u64::from(fnv1a(src.as_bytes())) * 0x1_0000_0000 + u64::from(fnv1a(id.as_bytes()))
-}
-
-/// The tag of the entry's source and id, and 0 for what is no delivery.
-pub(crate) fn sent_tag(kind: &Kind) -> u64
-    ensures { result ≡ sent_tag kind.now }
-{
-    match kind {
-        Kind::Sent { src, document, .. } => delivery_tag(src.as_str(), id_of(document)),
-        Kind::Put(_) => 0,
-        Kind::Del(_) => 0,
-        Kind::Mark => 0,
-    }
-}
-
 /// Whether the entry writes this id.
 pub(crate) fn is_write_of(kind: &Kind, id: &str) -> bool
     ensures { result ≡ is_write_of id.now kind.now }
@@ -60,73 +36,73 @@ pub(crate) fn is_write_of(kind: &Kind, id: &str) -> bool
     }
 }
 
-/// One more than the place of the id's last write, and 0 where it has none.
-fn last_write(log: &Log, ids: &Chain, id: &str) -> usize
-    requires { ids.now.tags ≡ map (λ e. id_tag (written_id e.kind)) log.now.entries }
-    ensures { result ≡ last_where (λ e. is_write_of id.now e.kind) log.now.entries }
-{
-    let mut at = ids.last(u64::from(fnv1a(id.as_bytes())));
-    while at > 0 {
-        let place = at - 1;
-        if log.is_write_of(place, id) {
-            return at;
-        }
-        at = ids.before(place);
-    }
-    at
-}
-
-/// The same of the last write of the id that the entry writes.
-pub(crate) fn place_before(log: &Log, ids: &Chain, kind: &Kind) -> usize
-    requires { ids.now.tags ≡ map (λ e. id_tag (written_id e.kind)) log.now.entries }
-    ensures { result ≡ before_of (written_id kind.now) log.now.entries }
+/// Puts an entry behind the others in the tree of ids. The answer is one more than the place of the
+/// last write of its id, and 0 where there is none. Takes no memory.
+pub(crate) fn note_write(log: &Log, ids: &mut Tree, kind: &Kind) -> usize
+    requires finds { Finds false ids.old log.now.entries }
+    requires room { 0 < room_of ids.old }
+    ensures before { result ≡ before_of (written_id kind.now) log.now.entries }
+    ensures finds { (e : Entry) → e.kind ≡ kind.now → Finds false ids.new (log.now.entries ++ e ∷ []) }
+    ensures room { room_of ids.old ≤ room_of ids.new + 1 }
 {
     match written_id(kind) {
-        Some(id) => last_write(log, ids, id),
+        Some(id) => note(log, ids, false, "", id),
         None => 0,
     }
 }
 
-/// One more than the place of the last delivery of the source and id, and 0 where there is none.
-fn last_delivery(log: &Log, sends: &Chain, src: &str, id: &str) -> usize
-    requires { sends.now.tags ≡ map (λ e. sent_tag e.kind) log.now.entries }
-    ensures { result ≡ last_where (λ e. is_delivery src.now id.now e.kind) log.now.entries }
+/// The greatest version that was delivered up to this place, counted from 1, of the source and id
+/// whose last delivery stands there.
+fn greatest_at(greatests: &[u64], at: usize) -> Option<u64>
+    requires { at ≤ length greatests.now }
+    ensures { (src id : ByteList) (h : History) → greatests.now ≡ greatests_after [] h
+        → at ≡ last_where (λ e. is_delivery src id e.kind) h → result ≡ greatest (sents src id h) }
 {
-    let mut at = sends.last(delivery_tag(src, id));
-    while at > 0 {
-        let place = at - 1;
-        if log.is_delivery(place, src, id) {
-            return at;
-        }
-        at = sends.before(place);
-    }
-    at
-}
-
-/// The greatest version that was delivered from the source under the id.
-pub(crate) fn greatest_sent(
-    log: &Log,
-    greatests: &[u64],
-    sends: &Chain,
-    src: &str,
-    id: &str,
-) -> Option<u64>
-    requires tags { sends.now.tags ≡ map (λ e. sent_tag e.kind) log.now.entries }
-    requires greatests { greatests.now ≡ greatests_after [] log.now.entries }
-    ensures { result ≡ greatest (sents src.now id.now log.now.entries) }
-{
-    let at = last_delivery(log, sends, src, id);
     if at == 0 {
         return None;
     }
     Some(greatests[at - 1])
 }
 
-/// The same with this entry, and 0 for what is no delivery.
-pub(crate) fn so_far(log: &Log, greatests: &[u64], sends: &Chain, kind: &Kind) -> u64
-    requires tags { sends.now.tags ≡ map (λ e. sent_tag e.kind) log.now.entries }
+/// The greatest version that was delivered from the source under the id.
+pub(crate) fn greatest_sent(
+    log: &Log,
+    greatests: &[u64],
+    sends: &Tree,
+    src: &str,
+    id: &str,
+) -> Option<u64>
+    requires finds { Finds true sends.now log.now.entries }
     requires greatests { greatests.now ≡ greatests_after [] log.now.entries }
-    ensures { result ≡ so_far log.now.entries kind.now }
+    ensures { result ≡ greatest (sents src.now id.now log.now.entries) }
+{
+    greatest_at(greatests, last_place(log, sends, true, src, id))
+}
+
+// Puts a delivery from the source under the id behind the entries. The answer is the greatest version
+// of those before. Takes no memory.
+fn note_sent(log: &Log, greatests: &[u64], sends: &mut Tree, src: &str, id: &str) -> Option<u64>
+    requires finds { Finds true sends.old log.now.entries }
+    requires room { 0 < room_of sends.old }
+    requires greatests { greatests.now ≡ greatests_after [] log.now.entries }
+    ensures greatest { result ≡ greatest (sents src.now id.now log.now.entries) }
+    ensures finds { (e : Entry) → is_delivery src.now id.now e.kind ≡ true
+        → Finds true sends.new (log.now.entries ++ e ∷ []) }
+    ensures room { room_of sends.old ≤ room_of sends.new + 1 }
+{
+    let at = note(log, sends, true, src, id);
+    greatest_at(greatests, at)
+}
+
+/// Puts an entry behind the others in the tree of deliveries. The answer is the greatest version of
+/// its source and id with it, and 0 for what is no delivery. Takes no memory.
+pub(crate) fn note_delivery(log: &Log, greatests: &[u64], sends: &mut Tree, kind: &Kind) -> u64
+    requires finds { Finds true sends.old log.now.entries }
+    requires room { 0 < room_of sends.old }
+    requires greatests { greatests.now ≡ greatests_after [] log.now.entries }
+    ensures greatest { result ≡ so_far log.now.entries kind.now }
+    ensures finds { (e : Entry) → e.kind ≡ kind.now → Finds true sends.new (log.now.entries ++ e ∷ []) }
+    ensures room { room_of sends.old ≤ room_of sends.new + 1 }
 {
     match kind {
         Kind::Sent {
@@ -134,7 +110,7 @@ pub(crate) fn so_far(log: &Log, greatests: &[u64], sends: &Chain, kind: &Kind) -
             version,
             document,
         } => {
-            let greatest = greatest_sent(log, greatests, sends, src.as_str(), id_of(document));
+            let greatest = note_sent(log, greatests, sends, src.as_str(), id_of(document));
             (*version).max(greatest.unwrap_or(0))
         }
         Kind::Put(_) => 0,

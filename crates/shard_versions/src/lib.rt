@@ -1,11 +1,11 @@
 //! A shard's history: entries, versions, current documents and deliveries.
 #![tactic(auto)]
 
-mod chain;
 mod cut;
 mod document;
 mod entry;
 mod fault;
+mod finding;
 mod fitness;
 mod index;
 mod log;
@@ -15,6 +15,7 @@ mod size;
 mod snapshot;
 #[cfg(test)]
 mod tests;
+mod tree;
 
 pub use cut::{Cut, CutMark, CutMarks, CutPart, OwnMark, OwnMarks, Record};
 pub use document::id_of;

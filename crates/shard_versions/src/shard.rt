@@ -10,11 +10,11 @@ ghost use Rattle.shard_versions.specs.Fitness.{AreStorable};
 ghost use Rattle.shard_versions.specs.Sizes.{entries_bytes};
 ghost use Rattle.shard_versions.specs.Shards.{HasRoom};
 
-use crate::chain::Chain;
-use crate::index::{greatest_sent, id_tag, is_replaced, place_before, relink, sent_tag, so_far};
+use crate::index::{greatest_sent, is_replaced, note_delivery, note_write, relink};
 use crate::log::{Log, Made, last_of, made_all};
 use crate::size::{entries_bytes, kind_bytes};
 use crate::snapshot::push_current;
+use crate::tree::Tree;
 use crate::{Entry, Kind, ShardFault, Snapshot, Step};
 use std::alloc::Global;
 use std::collections::VecDeque;
@@ -30,8 +30,8 @@ pub struct ShardState {
     log: Log,
     nexts: Vec<usize>,
     greatests: Vec<u64>,
-    ids: Chain,
-    sends: Chain,
+    ids: Tree,
+    sends: Tree,
     closed: usize,
     bytes: u64,
     limit: u64,
@@ -58,7 +58,7 @@ impl Model for ShardState {
 
 impl ShardState {
     /// The shard of no entry, with a limit on counted bytes.
-    #[tactic(auto, unfolding(crate::specs::Indexes::nexts_of, crate::specs::Indexes::greatests_after, crate::specs::Histories::settled))]
+    #[tactic(auto, using(crate::proofs::FindLemmas::finds_steps), unfolding(crate::specs::Indexes::nexts_of, crate::specs::Indexes::greatests_after, crate::specs::Histories::settled))]
     pub fn empty(alloc: Global, limit: u64) -> ShardState
         requires { limit ≤ 268435456 }
         ensures entries { result.entries ≡ [] }
@@ -68,8 +68,8 @@ impl ShardState {
             log: Log::empty(alloc),
             nexts: Vec::new(alloc),
             greatests: Vec::new(alloc),
-            ids: Chain::empty(alloc),
-            sends: Chain::empty(alloc),
+            ids: Tree::empty(alloc),
+            sends: Tree::empty(alloc),
             closed: 0,
             bytes: 0,
             limit,
@@ -146,7 +146,7 @@ impl ShardState {
     }
 
     /// Makes room for one append of this step.
-    #[tactic(auto, unfolding(crate::specs::Shards::HasRoom))]
+    #[tactic(auto, using(crate::proofs::FindLemmas::finds_steps), unfolding(crate::specs::Shards::HasRoom))]
     pub fn reserve(&mut self, step: &Step) -> Result<(), ShardFault>
         requires { AreStorable step.now }
         ensures entries { self.new.entries ≡ self.old.entries }
@@ -203,13 +203,11 @@ impl ShardState {
         ensures ready { self.new.ready ≡ [] }
     {
         let place = self.log.len() + 1;
-        let before = place_before(&self.log, &self.ids, &entry.kind);
-        let greatest = so_far(&self.log, &self.greatests, &self.sends, &entry.kind);
+        let before = note_write(&self.log, &mut self.ids, &entry.kind);
+        let greatest = note_delivery(&self.log, &self.greatests, &mut self.sends, &entry.kind);
         relink(&mut self.nexts, before, place);
         self.nexts.push_reserved(0);
         self.greatests.push_reserved(greatest);
-        self.ids.push(id_tag(&entry.kind));
-        self.sends.push(sent_tag(&entry.kind));
         self.closed = closed_with(self.closed, place, &entry.kind);
         self.bytes = self.bytes.saturating_add(kind_bytes(&entry.kind));
         self.room -= 1;

@@ -1,7 +1,7 @@
 // What no clause can say: that the definitions mean what the rules say, and that each call that
 // takes memory succeeds.
 use crate::{
-    Entry, Kind, ShardFault, ShardState, Snapshot, Step, are_fit, are_storable, is_storable,
+    Entry, ShardFault, ShardState, Snapshot, Step, are_fit, are_storable, is_storable, snapshot_of,
 };
 use std::alloc::Global;
 use std::test::Fail;
@@ -18,14 +18,9 @@ enum Plain {
 
 use Plain::{Del, Mark, Put, Sent};
 
-fn identified(alloc: Global, id: &str) -> Result<Tuple, Memory> {
+fn document(alloc: Global, id: &str, n: i64) -> Result<Tuple, Memory> {
     let mut document = Tuple::empty(alloc);
     document.put(Text::of(alloc, "id")?, Value::Text(Text::of(alloc, id)?))?;
-    Ok(document)
-}
-
-fn document(alloc: Global, id: &str, n: i64) -> Result<Tuple, Memory> {
-    let mut document = identified(alloc, id)?;
     document.put(Text::of(alloc, "n_i")?, Value::Long(n))?;
     Ok(document)
 }
@@ -34,25 +29,21 @@ fn entry(alloc: Global, plain: Plain) -> Result<Entry, Memory> {
     match plain {
         Put(id, n) => Ok(Entry::put(7, document(alloc, id, n)?)),
         Del(id) => Ok(Entry::del(7, Text::of(alloc, id)?)),
-        Sent(src, version, id) => Ok(Entry::sent(
-            7,
-            Text::of(alloc, src)?,
-            version,
-            document(alloc, id, 0)?,
-        )),
+        Sent(src, version, id) => {
+            let document = document(alloc, id, 0)?;
+            Ok(Entry::sent(7, Text::of(alloc, src)?, version, document))
+        }
         Mark => Ok(Entry::mark(7)),
     }
 }
 
-fn step_of(alloc: Global, entries: &[Plain]) -> Result<Step, Memory> {
+fn step_of(alloc: Global, entry: Entry) -> Result<Step, Memory> {
     let mut step = Step::new(alloc);
-    for plain in entries {
-        step.push(entry(alloc, *plain)?)?;
-    }
+    step.push(entry)?;
     Ok(step)
 }
 
-// Appends the step where it has room.
+// Appends the step where it can be kept.
 fn take(shard: &mut ShardState, step: Step) -> Result<bool, ShardFault> {
     if !are_storable(&step) {
         return Ok(false);
@@ -62,236 +53,209 @@ fn take(shard: &mut ShardState, step: Step) -> Result<bool, ShardFault> {
     Ok(true)
 }
 
-fn shard_of(alloc: Global, entries: &[Plain]) -> Result<ShardState, ShardFault> {
-    let mut shard = ShardState::empty(alloc, 268435456);
-    for plain in entries {
-        let _ = take(&mut shard, step_of(alloc, &[*plain])?)?;
+fn long_at(tuple: &Tuple, name: &str) -> i64 {
+    match tuple.get(name) {
+        Some(Value::Long(n)) => *n,
+        _ => -1,
     }
-    Ok(shard)
 }
 
-// Two writes of `{"id":"1"}`, each with a Mark, of 32 + (2 + 1 + 8) + 16 counted bytes.
-fn small_step(alloc: Global) -> Result<Step, Memory> {
-    let mut step = Step::new(alloc);
-    step.push(Entry::put(1, identified(alloc, "1")?))?;
-    step.push(Entry::mark(1))?;
-    Ok(step)
-}
-
-#[test]
-fn a_full_shard_stays_as_it_was(rt: HostRuntime) -> Result<(), Fail> {
-    for (limit, fits, entries) in [(100u64, false, 2u64), (117, false, 2), (118, true, 4)] {
-        let mut shard = ShardState::empty(rt.alloc(), limit);
-        assert!(rt; take(&mut shard, small_step(rt.alloc())?)?);
-        assert_eq!(rt; shard.bytes(), 59);
-        let second = take(&mut shard, small_step(rt.alloc())?);
-        assert_eq!(rt; second == Ok(true), fits, "within {limit}");
-        assert_eq!(rt;
-            second == Err(ShardFault::ShardFull),
-            !fits,
-            "within {limit}"
-        );
-        assert_eq!(rt; shard.len(), entries, "within {limit}");
-    }
-    Ok(())
-}
-
-#[test]
-fn each_kind_of_entry_has_its_counted_bytes(rt: HostRuntime) -> Result<(), Fail> {
-    for (plain, want) in [
-        (Put("1", 5), 62u64),
-        (Del("12"), 34),
-        (Sent("abc", 9, "1"), 65),
-        (Mark, 16),
-    ] {
-        let shard = shard_of(rt.alloc(), &[plain])?;
-        assert_eq!(rt; shard.bytes(), want, "of a kind");
-    }
-    Ok(())
-}
-
-// Whether the snapshot has just these documents: version, id and number, by version.
-fn shows(snapshot: &Snapshot, want: &[(u64, &str, i64)]) -> bool {
-    if snapshot.count() != want.len() as u64 {
+// Whether the snapshot has this top, and so many documents, the last of this version and number.
+fn is_seen(shown: &Snapshot, top: u64, count: u64, version: u64, n: i64) -> bool {
+    if shown.top() != top || shown.count() != count {
         return false;
     }
-    for (k, (version, id, n)) in want.iter().enumerate() {
-        if k as u64 >= snapshot.count() || snapshot.version(k as u64) != *version {
-            return false;
-        }
-        let tuple = snapshot.document(k as u64);
-        if !has_version(tuple, *version) || !has_long(tuple, "n_i", *n) {
-            return false;
-        }
-        if !has_text(tuple, "id", id) || tuple.count() != 3 {
+    if shown.count() == 0 {
+        return version == 0;
+    }
+    let last = shown.count() - 1;
+    let tuple = shown.document(last);
+    shown.version(last) == version
+        && long_at(tuple, "_version_").cast_unsigned() == version
+        && long_at(tuple, "n_i") == n
+        && tuple.count() == 3
+}
+
+// Appends a copy of the entry.
+fn grow(shard: &mut ShardState, alloc: Global, plain: Plain) -> Result<bool, ShardFault> {
+    let copy = entry(alloc, plain)?.copy(alloc)?;
+    take(shard, step_of(alloc, copy)?)
+}
+
+fn grows(shard: &mut ShardState, alloc: Global, plain: Plain) -> bool {
+    matches!(grow(shard, alloc, plain), Ok(true))
+}
+
+// Whether each of the entries is appended.
+fn all_grow(shard: &mut ShardState, alloc: Global, entries: &[Plain]) -> bool {
+    for plain in entries {
+        if !grows(shard, alloc, *plain) {
             return false;
         }
     }
     true
 }
 
-fn has_version(tuple: &Tuple, version: u64) -> bool {
-    match tuple.get("_version_") {
-        Some(Value::Long(n)) => n.cast_unsigned() == version,
-        _ => false,
-    }
-}
-
-fn has_long(tuple: &Tuple, name: &str, n: i64) -> bool {
-    match tuple.get(name) {
-        Some(Value::Long(m)) => *m == n,
-        _ => false,
-    }
-}
-
-fn has_text(tuple: &Tuple, name: &str, text: &str) -> bool {
-    match tuple.get(name) {
-        Some(Value::Text(t)) => t.as_str() == text,
-        _ => false,
+fn shows(shard: &ShardState, alloc: Global, top: u64, count: u64, version: u64, n: i64) -> bool {
+    match shard.snapshot(alloc) {
+        Ok(shown) => is_seen(&shown, top, count, version, n),
+        Err(_) => false,
     }
 }
 
 #[test]
-fn what_is_committed_and_not_replaced_is_current(rt: HostRuntime) -> Result<(), Fail> {
-    let none: [(u64, &str, i64); 0] = [];
-    let checks: [(&[Plain], u64, bool, &[(u64, &str, i64)]); 9] = [
-        (&[], 0, false, &none),
-        (&[Mark], 0, false, &none),
-        (&[Put("a", 1)], 0, true, &none),
-        (&[Put("a", 1), Mark], 1, false, &[(1, "a", 1)]),
-        (&[Put("a", 1), Mark, Put("a", 2)], 1, true, &[(1, "a", 1)]),
-        (
-            &[Put("a", 1), Put("b", 2), Mark, Put("a", 3), Mark],
-            3,
-            false,
-            &[(2, "b", 2), (3, "a", 3)],
-        ),
-        (&[Put("a", 1), Del("a"), Mark], 2, false, &none),
-        (&[Put("a", 1), Mark, Del("a")], 1, true, &[(1, "a", 1)]),
-        (
-            &[Del("a"), Sent("c", 9, "a"), Mark],
-            2,
-            false,
-            &[(2, "a", 0)],
-        ),
-    ];
-    for (k, (entries, top, pending, want)) in checks.iter().enumerate() {
-        let shard = shard_of(rt.alloc(), entries)?;
-        let snapshot = shard.snapshot(rt.alloc())?;
-        assert_eq!(rt; snapshot.top(), *top, "of {k}");
-        assert_eq!(rt; snapshot.upto(), entries.len() as u64, "of {k}");
-        assert_eq!(rt; shard.pending(), *pending, "of {k}");
-        assert!(rt; shows(&snapshot, want), "of {k}");
+fn what_is_committed_is_current(rt: HostRuntime) {
+    let alloc = rt.alloc();
+    let mut shard = ShardState::empty(alloc, 268435456);
+    assert!(rt; grows(&mut shard, alloc, Put("a", 1)));
+    assert!(rt; shows(&shard, alloc, 0, 0, 0, 0) && shard.pending());
+    assert!(rt; all_grow(&mut shard, alloc, &[Mark, Put("a", 2)]));
+    assert!(rt; shows(&shard, alloc, 1, 1, 1, 1) && shard.pending());
+}
+
+#[test]
+fn what_is_replaced_or_deleted_is_not_current(rt: HostRuntime) {
+    let alloc = rt.alloc();
+    let mut shard = ShardState::empty(alloc, 268435456);
+    assert!(rt; all_grow(&mut shard, alloc, &[Put("a", 1), Put("b", 2), Mark]));
+    assert!(rt; all_grow(&mut shard, alloc, &[Put("b", 3), Del("a"), Mark]));
+    assert!(rt; shows(&shard, alloc, 4, 1, 3, 3) && !shard.pending());
+    assert_eq!(rt; shard.bytes(), 62 + 62 + 16 + 62 + 33 + 16);
+}
+
+fn admits(
+    shard: &ShardState,
+    alloc: Global,
+    src: &str,
+    id: &str,
+    version: u64,
+) -> Result<bool, Memory> {
+    let src = Text::of(alloc, src)?;
+    let id = Text::of(alloc, id)?;
+    Ok(shard.admits_sent(&src, &id, version))
+}
+
+fn is_newer(shard: &ShardState, alloc: Global, src: &str, id: &str, version: u64) -> bool {
+    matches!(admits(shard, alloc, src, id, version), Ok(true))
+}
+
+fn is_older(shard: &ShardState, alloc: Global, src: &str, id: &str, version: u64) -> bool {
+    matches!(admits(shard, alloc, src, id, version), Ok(false))
+}
+
+// `costarring` and `liquid` have one 32-bit FNV-1a hash.
+const DELIVERED: [Plain; 3] = [
+    Sent("c", 5, "costarring"),
+    Sent("c", 3, "costarring"),
+    Put("liquid", 1),
+];
+
+#[test]
+fn only_a_newer_delivery_is_admitted(rt: HostRuntime) {
+    let alloc = rt.alloc();
+    let mut shard = ShardState::empty(alloc, 268435456);
+    assert!(rt; all_grow(&mut shard, alloc, &DELIVERED));
+    assert!(rt; is_newer(&shard, alloc, "c", "costarring", 6));
+    assert!(rt; is_older(&shard, alloc, "c", "costarring", 5));
+    assert!(rt; is_older(&shard, alloc, "c", "costarring", 4));
+    assert!(rt; is_newer(&shard, alloc, "d", "costarring", 1));
+}
+
+#[test]
+fn ids_of_one_hash_are_told_apart(rt: HostRuntime) {
+    let alloc = rt.alloc();
+    let mut shard = ShardState::empty(alloc, 268435456);
+    assert_eq!(rt; fnv1a(b"costarring"), fnv1a(b"liquid"));
+    assert!(rt; all_grow(&mut shard, alloc, &DELIVERED));
+    assert!(rt; is_newer(&shard, alloc, "c", "liquid", 1));
+    assert!(rt; grows(&mut shard, alloc, Mark));
+    assert!(rt; shows(&shard, alloc, 3, 2, 3, 1));
+    assert_eq!(rt; shard.bytes(), 72 + 72 + 67 + 16);
+}
+
+// What is seen of the history, read as it stands.
+fn read_again(alloc: Global, shard: ShardState) -> Result<Snapshot, Memory> {
+    let entries = shard.into_entries(alloc)?;
+    snapshot_of(alloc, entries.as_slice())
+}
+
+#[test]
+fn a_history_is_read_as_it_stands(rt: HostRuntime) -> Result<(), Fail> {
+    let alloc = rt.alloc();
+    let mut shard = ShardState::empty(alloc, 268435456);
+    assert!(rt; grows(&mut shard, alloc, Mark));
+    assert!(rt; shows(&shard, alloc, 0, 0, 0, 0) && !shard.pending());
+    assert!(rt; grows(&mut shard, alloc, Del("a")));
+    assert!(rt; grows(&mut shard, alloc, Sent("c", 9, "a")));
+    assert!(rt; grows(&mut shard, alloc, Mark));
+    let shown = read_again(alloc, shard)?;
+    assert!(rt; shown.upto() == 4 && is_seen(&shown, 2, 1, 2, 0));
+    Ok(())
+}
+
+// Two Marks, of 16 counted bytes each.
+fn two_marks(alloc: Global) -> Result<Step, Memory> {
+    let mut step = step_of(alloc, Entry::mark(1))?;
+    step.push(Entry::mark(1))?;
+    Ok(step)
+}
+
+#[test]
+fn a_full_shard_stays_as_it_was(rt: HostRuntime) -> Result<(), Fail> {
+    let alloc = rt.alloc();
+    for (limit, fits) in [(48u64, false), (63, false), (64, true)] {
+        let mut shard = ShardState::empty(alloc, limit);
+        assert!(rt; take(&mut shard, two_marks(alloc)?)?);
+        let second = take(&mut shard, two_marks(alloc)?);
+        let want = if fits {
+            Ok(true)
+        } else {
+            Err(ShardFault::ShardFull)
+        };
+        assert!(rt; second == want, "within {limit}");
+        assert_eq!(rt; shard.len(), if fits { 4 } else { 2 }, "within {limit}");
     }
     Ok(())
 }
 
-#[test]
-fn only_a_newer_delivery_is_admitted(rt: HostRuntime) -> Result<(), Fail> {
-    let shard = shard_of(
-        rt.alloc(),
-        &[
-            Sent("c", 5, "a"),
-            Sent("c", 3, "a"),
-            Put("a", 1),
-            Sent("e", 9, "a"),
-            Mark,
-        ],
-    )?;
-    for (src, id, version, want) in [
-        ("c", "a", 6u64, true),
-        ("c", "a", 5, false),
-        ("c", "a", 4, false),
-        ("d", "a", 1, true),
-        ("c", "b", 1, true),
-        ("e", "a", 9, false),
-    ] {
-        let src_text = Text::of(rt.alloc(), src)?;
-        let id_text = Text::of(rt.alloc(), id)?;
-        let admits = shard.admits_sent(&src_text, &id_text, version);
-        assert_eq!(rt; admits, want, "{version} of {src} {id}");
-    }
-    Ok(())
+// Whether a step of the entry belongs to this shard of two.
+fn belongs(alloc: Global, plain: Plain, shard: u16) -> Result<bool, Memory> {
+    let step = step_of(alloc, entry(alloc, plain)?)?;
+    Ok(are_fit(&step, 2, shard))
 }
 
-// Two words of one 32-bit FNV-1a hash.
-#[test]
-fn ids_of_one_hash_are_told_apart(rt: HostRuntime) -> Result<(), Fail> {
-    let (one, other) = ("costarring", "liquid");
-    assert_eq!(rt; fnv1a(one.as_bytes()), fnv1a(other.as_bytes()));
-    let shard = shard_of(
-        rt.alloc(),
-        &[
-            Put("costarring", 1),
-            Put("liquid", 2),
-            Sent("c", 4, "costarring"),
-            Mark,
-        ],
-    )?;
-    let snapshot = shard.snapshot(rt.alloc())?;
-    assert!(rt; shows(&snapshot, &[(2, "liquid", 2), (3, "costarring", 0)]));
-    let src = Text::of(rt.alloc(), "c")?;
-    assert!(rt; shard.admits_sent(&src, &Text::of(rt.alloc(), other)?, 4));
-    assert!(rt; !shard.admits_sent(&src, &Text::of(rt.alloc(), one)?, 4));
-    Ok(())
+fn is_at(alloc: Global, plain: Plain, shard: u16) -> bool {
+    matches!(belongs(alloc, plain, shard), Ok(true))
+        && matches!(belongs(alloc, plain, 1 - shard.min(1)), Ok(false))
 }
 
 #[test]
-fn an_id_belongs_to_the_shard_of_its_hash(rt: HostRuntime) -> Result<(), Fail> {
-    for (plain, shard, want) in [
-        (Put("2", 0), 1u16, true),
-        (Put("2", 0), 0, false),
-        (Sent("c", 1, "3"), 0, true),
-        (Sent("c", 1, "3"), 1, false),
-        (Del("2"), 1, true),
-        (Del("3"), 1, false),
-        (Mark, 0, true),
-        (Mark, 1, true),
-        (Put("", 0), 1, false),
-    ] {
-        let step = step_of(rt.alloc(), &[Mark, plain])?;
-        assert_eq!(rt; are_fit(&step, 2, shard), want, "on {shard}");
-    }
-    Ok(())
+fn an_id_belongs_to_the_shard_of_its_hash(rt: HostRuntime) {
+    let alloc = rt.alloc();
+    assert!(rt; is_at(alloc, Put("2", 0), 1));
+    assert!(rt; is_at(alloc, Sent("c", 1, "3"), 0));
+    assert!(rt; is_at(alloc, Del("2"), 1));
+    assert!(rt; matches!(belongs(alloc, Mark, 0), Ok(true)));
+    assert!(rt; matches!(belongs(alloc, Mark, 1), Ok(true)));
+    assert!(rt; matches!(belongs(alloc, Put("", 0), 1), Ok(false)));
+}
+
+// Whether a document with this field can be kept.
+fn is_kept_with(alloc: Global, name: &str, value: Value) -> Result<bool, Memory> {
+    let mut document = document(alloc, "a", 1)?;
+    document.put(Text::of(alloc, name)?, value)?;
+    Ok(is_storable(&document))
 }
 
 #[test]
 fn a_document_has_an_id_and_no_group_or_version(rt: HostRuntime) -> Result<(), Fail> {
-    assert!(rt; is_storable(&document(rt.alloc(), "a", 1)?));
-    assert!(rt; !is_storable(&document(rt.alloc(), "", 1)?));
-    assert!(rt; !is_storable(&Tuple::empty(rt.alloc())));
-    let mut grouped = document(rt.alloc(), "a", 1)?;
-    grouped.put(
-        Text::of(rt.alloc(), "g")?,
-        Value::Group(Tuples::empty(rt.alloc())),
-    )?;
-    assert!(rt; !is_storable(&grouped));
-    let mut versioned = document(rt.alloc(), "a", 1)?;
-    versioned.put(Text::of(rt.alloc(), "_version_")?, Value::Long(1))?;
-    assert!(rt; !is_storable(&versioned));
-    let mut numbered = Tuple::empty(rt.alloc());
-    numbered.put(Text::of(rt.alloc(), "id")?, Value::Long(1))?;
-    assert!(rt; !is_storable(&numbered));
-    Ok(())
-}
-
-#[test]
-fn an_entry_is_copied(rt: HostRuntime) -> Result<(), Fail> {
-    let copy = entry(rt.alloc(), Sent("c", 4, "a"))?.copy(rt.alloc())?;
-    assert_eq!(rt; copy.by, 7);
-    let is_same = match &copy.kind {
-        Kind::Sent {
-            src,
-            version,
-            document,
-        } => src.as_str() == "c" && *version == 4 && has_text(document, "id", "a"),
-        _ => false,
-    };
-    assert!(rt; is_same);
-    for plain in [Put("a", 1), Del("a"), Mark] {
-        let copied = entry(rt.alloc(), plain)?.copy(rt.alloc())?;
-        assert_eq!(rt; copied.by, 7);
-    }
+    let alloc = rt.alloc();
+    assert!(rt; is_kept_with(alloc, "m_i", Value::Long(1))?);
+    assert!(rt; !is_kept_with(alloc, "g", Value::Group(Tuples::empty(alloc)))?);
+    assert!(rt; !is_kept_with(alloc, "_version_", Value::Long(1))?);
+    assert!(rt; !is_kept_with(alloc, "id", Value::Long(1))?);
+    assert!(rt; !is_kept_with(alloc, "id", Value::Text(Text::of(alloc, "")?))?);
+    assert!(rt; !is_storable(&Tuple::empty(alloc)));
     Ok(())
 }
 

@@ -1,21 +1,20 @@
-use Rattle.std.proofs.Common.{rules, ◌≡◌, ◌<◌, ◌-◌, ◌*◌, ◌≤◌, arith, length, Fits}
-use Rattle.shard_versions.proofs.SentLemmas.{greatest-bound, greatest-none, greatest-some}
+use Rattle.std.proofs.Common.{rules, ◌≡◌, ◌≤◌, [], arith, ap, length}
+use Rattle.shard_versions.specs.declared.entry.Entry.{Entry}
+use Rattle.shard_versions.specs.Indexes.{is_delivery}
+use Rattle.shard_versions.proofs.PlaceLemmas.{last_where-bound}
+use Rattle.shard_versions.proofs.IndexLemmas.{greatests_after-length}
 use Rattle.shard_versions.proofs.index.greatest_sent.Goals as goal
 
-pub returns-then-at-eq0 : goal.returns-then-at-eq0
-returns-then-at-eq0 c =
-    greatest-none c.args.src.now c.args.id.now c.args.log.now.entries c.last_delivery-at.result c.last_delivery-at.ensures (search rules)
-
-pub bounds-greatests-at : goal.bounds-greatests-at
-bounds-greatests-at c =
-    greatest-bound c.args.src.now c.args.id.now c.args.log.now.entries c.last_delivery-at.result c.last_delivery-at.ensures
-    c.args.greatests.now c.requires.greatests (omega arith)
-
-pub offset_bounds-greatests-at : goal.offset_bounds-greatests-at
-offset_bounds-greatests-at c =
-    omega (arith, greatest-bound c.args.src.now c.args.id.now c.args.log.now.entries c.last_delivery-at.result c.last_delivery-at.ensures c.args.greatests.now c.requires.greatests (omega arith))
+pub greatest_at-requires : goal.greatest_at-requires
+greatest_at-requires c =
+    omega (
+      arith,
+      c.last_place.ensures,
+      last_where-bound (λ (x : Entry). is_delivery c.args.src.now c.args.id.now x.kind) c.args.log.now.entries,
+      ap length c.requires.greatests,
+      greatests_after-length [] c.args.log.now.entries,
+    )
 
 pub returns : goal.returns
 returns c =
-    greatest-some c.args.src.now c.args.id.now c.args.log.now.entries c.last_delivery-at.result c.last_delivery-at.ensures
-    c.args.greatests.now c.requires.greatests (omega arith)
+    c.greatest_at.ensures c.args.src.now c.args.id.now c.args.log.now.entries c.requires.greatests c.last_place.ensures

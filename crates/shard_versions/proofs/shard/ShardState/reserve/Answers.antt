@@ -1,8 +1,10 @@
-use Rattle.std.proofs.Common.{rules, ◌≡◌, ◌+◌, ◌-◌, ◌^◌, ◌<◌, ◌≤◌, ℕ, List, [], length, map, min, sym, ap, subst, ◌∙◌, arith}
+use Rattle.std.proofs.Common.{rules, ◌≡◌, ◌+◌, ◌-◌, ◌^◌, ◌<◌, ◌≤◌, ℕ, true, false, List, [], length, map, min, sym, ap, subst, ◌∙◌, arith}
 use Rattle.shard_versions.specs.Histories.{settled, slots, last_version}
 use Rattle.shard_versions.specs.Sizes.{entries_bytes}
 use Rattle.shard_versions.specs.Logs.{AreMade}
-use Rattle.shard_versions.specs.Indexes.{written_id, id_tag, sent_tag, nexts_of, greatests_after}
+use Rattle.shard_versions.specs.Indexes.{nexts_of, greatests_after}
+use Rattle.shard_versions.specs.Trees.{Finds}
+use Rattle.shard_versions.proofs.FindLemmas.{finds-same}
 use Rattle.shard_versions.specs.declared.entry.Entry.{Entry}
 use Rattle.shard_versions.proofs.LogLemmas.{last-few}
 use Rattle.shard_versions.proofs.shard.ShardState.reserve.Goals as goal
@@ -26,10 +28,12 @@ invariant_of-self-2 c =
     record {
       nexts = c.in_ok-reserve-2.ensures.items ∙ (c.self.invariant.nexts ∙ ap (nexts_of 0) (sym same));
       greatests = c.in_ok-reserve-3.ensures.items ∙ (c.self.invariant.greatests ∙ ap (greatests_after []) (sym same));
-      ids = c.in_ok-reserve-4.ensures.tags
-          ∙ (c.self.invariant.ids ∙ ap (map (λ (x : Entry). id_tag (written_id x.kind))) (sym same));
-      sends = c.in_ok-reserve-5.ensures.tags
-          ∙ (c.self.invariant.sends ∙ ap (map (λ (x : Entry). sent_tag x.kind)) (sym same));
+      ids = subst (Finds false c.reserve-4.new.self) (sym same)
+          (finds-same false c.self.inside.ids c.reserve-4.new.self c.self.inside.log.entries c.self.invariant.ids
+          c.in_ok-reserve-4.ensures.nodes c.in_ok-reserve-4.ensures.roots);
+      sends = subst (Finds true c.reserve-5.new.self) (sym same)
+          (finds-same true c.self.inside.sends c.reserve-5.new.self c.self.inside.log.entries c.self.invariant.sends
+          c.in_ok-reserve-5.ensures.nodes c.in_ok-reserve-5.ensures.roots);
       closed = c.self.invariant.closed ∙ ap (λ h. length (settled h)) (sym same);
       bytes = c.self.invariant.bytes ∙ ap (λ h. min (entries_bytes h) (2 ^ 64 - 1)) (sym same);
       ready = subst (λ n. AreMade n c.in_ok-self-inside.field-0.items) c.last.ensures c.in_ok-self-inside.ensures.made;
