@@ -3,3 +3,4 @@ pub mod AlikeLemmas
 pub mod RaiseLemmas
 pub mod TopicLemmas
 pub mod StateLemmas
+pub mod KeptLemmas

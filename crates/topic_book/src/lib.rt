@@ -4,6 +4,7 @@
 mod alike;
 mod book;
 mod fault;
+mod kept;
 #[cfg(test)]
 mod tests;
 mod topic;
@@ -12,4 +13,5 @@ mod topics;
 pub use alike::{is_alike, same_key};
 pub use book::BookState;
 pub use fault::BookFault;
+pub use kept::kept_text;
 pub use topic::{Binding, BookEntries, BookEntry, TopicKey};
