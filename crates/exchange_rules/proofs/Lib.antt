@@ -15,3 +15,4 @@ pub mod RoutingLemmas
 pub mod DeliveryLemmas
 pub mod BindingLemmas
 mod ExampleLemmas
+pub mod RunLemmas

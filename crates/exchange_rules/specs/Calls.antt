@@ -4,7 +4,7 @@ use Rattle.shard_versions.specs.Histories.{is_mark}
 use Rattle.exchange_rules.specs.declared.log_entry.LogEntry.{LogEntry}
 use Rattle.exchange_rules.specs.Courses.{Course, ends}
 use Rattle.exchange_rules.specs.Accesses.{own_of, at_owns}
-use Rattle.exchange_rules.specs.Following.{Writer, Reaches, Answers}
+use Rattle.exchange_rules.specs.Following.{Writer, Reaches, Answers, Begins}
 use Rattle.exchange_rules.specs.declared.log_entry.LogEntry.TheVariants as logged
 use Rattle.exchange_rules.specs.declared.fault.SiteFault.{SiteFault}
 use Rattle.exchange_rules.specs.declared.fault.SiteFault.TheVariants.{ShardFull, TopicBound, BookFull, OutOfMemory}
@@ -77,3 +77,23 @@ IsFaultFor refusal stand (ShardFull collection shard n) = ShardFull collection s
 IsFaultFor refusal stand (TopicBound kept) = TopicBound kept ≡ refusal
 IsFaultFor refusal stand (BookFull topics) = BookFull topics ≡ refusal
 IsFaultFor refusal stand (OutOfMemory n) = n ≡ stand
+
+-- the writer followed the course to this answer, or a beginning of it where memory was wanting
+abbrev pub Carried : {A E : Type 0} → Writer → Writer → Course A → Result A E → Type 0
+Carried old new course (Ok a) = Answers old new course a
+Carried old new course (Err fault) = Begins old new course
+
+-- a call of several others was refused as its course says, or stopped for want of memory
+abbrev pub IsEnded : {A : Type 0} → Writer → Writer → Course (Result A SiteFault) → SiteFault
+    → Type 0
+IsEnded old new course (ShardFull collection shard stand) =
+    Answers old new course (Err (ShardFull collection shard stand))
+IsEnded old new course (TopicBound kept) = Answers old new course (Err (TopicBound kept))
+IsEnded old new course (BookFull topics) = Answers old new course (Err (BookFull topics))
+IsEnded old new course (OutOfMemory stand) = Begins old new course
+
+-- it followed its course to this answer, was refused, or stopped
+abbrev pub Ended : {A : Type 0} → Writer → Writer → Course (Result A SiteFault)
+    → Result A SiteFault → Type 0
+Ended old new course (Ok a) = Answers old new course (Ok a)
+Ended old new course (Err fault) = IsEnded old new course fault

@@ -12,3 +12,8 @@ pub mod Own
 pub mod Looking
 pub mod Laws
 pub mod Recorded
+pub mod Puts
+pub mod Batches
+pub mod Updates
+pub mod Topics
+pub mod RunLaws

@@ -1,6 +1,7 @@
 // The laws of following a course, for every answer that a course may have.
 ghost use Rattle.exchange_rules.specs.Laws.{FollowingStays, FollowingJoins, FollowingGoesOn, RunsAlone, OwnStepsAreRecorded, StepsAreLookedAt};
 ghost use Rattle.exchange_rules.specs.Looking.{RowsLookFirst};
+ghost use Rattle.exchange_rules.specs.RunLaws.{RunsLookFirst};
 
 /// What a writer did follows its course over all that the writer sees later, too.
 pub fn following_stays<A>()
@@ -35,4 +36,9 @@ pub fn steps_are_looked_at<A>()
 /// Updates, commits, cuts, deliveries and the calls on topics look first.
 pub fn rows_look_first()
     ensures { RowsLookFirst }
+{}
+
+/// Updates of tuples, their commits, and topics look first.
+pub fn runs_look_first<B>()
+    ensures { RunsLookFirst B }
 {}
