@@ -1,24 +1,23 @@
 -- A delivery to a site of one writer.
 use Rattle.std.proofs.Common.{◌≡◌, ℕ, ◌<◌, true, false, List, [], ◌∷◌, ◌++◌, length, get_or, map, refl, sym, ap, ◌∙◌, subst, arith}
-use Rattle.std.specs.List.{AllByRecursion}
 use Rattle.shard_versions.specs.Deliveries.{admitted, mark_by}
-use Rattle.shard_versions.specs.Fitness.{is_storable_kind, AreStorable}
 use Rattle.shard_versions.specs.Shards.{Shard}
 use Rattle.shard_versions.specs.declared.entry.Entry.{Entry}
 use Rattle.shard_versions.specs.declared.entry.Kind.{Kind}
 use Rattle.shard_versions.proofs.DeliveryLemmas.{admitted-each}
-use Rattle.shard_versions.proofs.ListLemmas.{each_append}
 use Rattle.topic_book.specs.Cells.{cells_in}
+use Rattle.once_core.specs.Law.{IsFitCell}
 use Rattle.exchange_rules.specs.Cells.{history_in, write}
 use Rattle.exchange_rules.specs.Deliveries.{admitted_kinds}
 use Rattle.exchange_rules.specs.Primitives.{delivered, made}
 use Rattle.exchange_rules.specs.Rows.{HasCell}
 use Rattle.exchange_rules.specs.Steps.{AreBy, closed, is_full, is_over, kinds_of}
 use Rattle.site_laws.specs.Duties.{MayDeliver}
-use Rattle.site_laws.proofs.WriteLemmas.{fit-storable}
+use Rattle.site_laws.proofs.WriteLemmas.{mark-fit}
 use Rattle.stream_site.specs.Plains.{Plain, layout_of, writer_of}
 use Rattle.stream_site.proofs.AdmitLemmas.{IsKept, delivered_none, delivered_some, is_kept}
 use Rattle.stream_site.proofs.CloseLemmas.{is_closed}
+use Rattle.stream_site.proofs.FitLemmas.{admitted-fit, more-fit}
 use Rattle.stream_site.proofs.PlainLemmas.{histories_of, history_at, in_shards}
 
 -- what a delivery would append to a cell of the site
@@ -30,7 +29,8 @@ to_deliver p c step =
 pub record IsKeptHere (p : Plain) (c : ℕ) (step kept : List Entry) : Type 0 where
   pub is : IsKept (history_in (get_or (writer_of p).seen c [])) (kinds_of step) kept
   pub own : AreBy 1 kept
-  pub storable : AreStorable kept
+  pub fit : IsFitCell p.names c kept
+  pub in_range : c < cells_in p.names
 
 -- by the shard that was read
 pub kept_here : (p : Plain) (shards : List Shard) (c : ℕ) (x : Shard) (step kept : List Entry)
@@ -38,16 +38,15 @@ pub kept_here : (p : Plain) (shards : List Shard) (c : ℕ) (x : Shard) (step ke
     → HasCell (layout_of p) (writer_of p) c → x ≡ get_or shards c x
     → MayDeliver p.names 1 (writer_of p).seen c step → kept ≡ admitted x.entries step
     → IsKeptHere p c step kept
-unfolding AreStorable
 kept_here p shards c x step kept e counted h is may k =
     let same = history_at p shards c x e (in_shards p c (length shards) h counted) is in
-    let all = fit-storable p.names c step h.in_range may.step_is.fit in
     record {
       is = is_kept (history_in (get_or (writer_of p).seen c [])) x.entries step kept same k;
       own = subst (AreBy 1) (sym k)
           (admitted-each (λ (e : Entry). e.by ≡ 1) x.entries step may.step_is.own);
-      storable = subst (AllByRecursion (λ (e : Entry). is_storable_kind e.kind ≡ true)) (sym k)
-          (admitted-each (λ (e : Entry). is_storable_kind e.kind ≡ true) x.entries step all);
+      fit = subst (IsFitCell p.names c) (sym k)
+          (admitted-fit p.names c x.entries step may.step_is.fit);
+      in_range = h.in_range;
     }
 
 -- nothing is admitted
@@ -69,7 +68,7 @@ empty_of p c step kept k none =
 -- what was kept is appended with a Mark
 pub record IsDone (p : Plain) (c : ℕ) (step kept whole : List Entry) : Type 0 where
   pub own : AreBy 1 whole
-  pub storable : AreStorable whole
+  pub fit : IsFitCell p.names c whole
   pub made : made (writer_of p) c (map write (kinds_of whole))
       ≡ delivered (writer_of p) c (to_deliver p c step)
   pub count : length kept ≡ length (to_deliver p c step)
@@ -79,7 +78,6 @@ pub record IsDone (p : Plain) (c : ℕ) (step kept whole : List Entry) : Type 0 
 -- where something was kept
 pub done_of : (p : Plain) (c : ℕ) (step kept whole : List Entry) → IsKeptHere p c step kept
     → 0 < length kept → whole ≡ kept ++ mark_by 1 ∷ [] → IsDone p c step kept whole
-unfolding AreStorable
 done_of p c step kept whole k lt e =
     let h = history_in (get_or (writer_of p).seen c []) in
     let ks = to_deliver p c step in
@@ -90,9 +88,9 @@ done_of p c step kept whole k lt e =
     let all = delivered_some (writer_of p) c p.limit h ks some in
     record {
       own = close.own;
-      storable = subst (AllByRecursion (λ (e : Entry). is_storable_kind e.kind ≡ true)) (sym e)
-          (each_append (λ (e : Entry). is_storable_kind e.kind ≡ true) kept (mark_by 1 ∷ [])
-          k.storable (refl, tt));
+      fit = subst (IsFitCell p.names c) (sym e)
+          (more-fit p.names c kept (mark_by 1 ∷ []) k.fit
+          (mark-fit p.names 1 c k.in_range).fit);
       made = ap (λ x. made (writer_of p) c (map write x)) kinds ∙ all.0;
       count = sym long;
       over = all.1 ∙ ap (is_full p.limit h) (sym kinds);

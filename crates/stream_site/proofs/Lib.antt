@@ -18,3 +18,4 @@ pub mod SendLemmas
 pub mod AdmitLemmas
 pub mod TopicLemmas
 pub mod DeliverLemmas
+pub mod FitLemmas

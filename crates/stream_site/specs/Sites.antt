@@ -1,9 +1,10 @@
 -- When what a site of one writer keeps is right (own).
-use Rattle.std.specs.Prelude.{◌^◌, ◌≡◌, ◌+◌, ◌<◌, length, map}
+use Rattle.std.specs.Prelude.{ℕ, ◌^◌, ◌≡◌, ◌+◌, ◌<◌, [], get_or, length, map}
 use Rattle.std.specs.List.{AllByRecursion}
 use Rattle.shard_versions.specs.Shards.{Shard}
 use Rattle.topic_book.specs.Cells.{cells_in}
 use Rattle.topic_book.specs.Fitness.{IsFitEntry}
+use Rattle.once_core.specs.Law.{IsFitCell}
 use Rattle.exchange_rules.specs.Cells.{author_of}
 use Rattle.exchange_rules.specs.Steps.{AreBy}
 use Rattle.exchange_rules.specs.declared.log_entry.LogEntry.TheVariants as logged
@@ -23,13 +24,15 @@ plain_in s = record {
 }
 
 -- there is a shard for each cell but the book's, with the site's limit and the one writer's entries
--- alone; the book's entries are the one writer's, and its topics are on these collections; and there
--- is a count of looks for each cell
+-- alone, which belong there; the book's entries are the one writer's, and its topics are on these
+-- collections; and there is a count of looks for each cell
 pub record IsSite (s : Inside) : Type 0 where
   pub counted : length s.shards.items ≡ cells_in s.names
   pub few : cells_in s.names < 2 ^ 32
   pub limits : AllByRecursion (λ (x : Shard). x.limit ≡ s.limit) s.shards.items
   pub own : AllByRecursion (λ (x : Shard). AreBy 1 x.entries) s.shards.items
+  pub fit : (cell : ℕ)
+      → IsFitCell s.names cell (get_or (map (λ (x : Shard). x.entries) s.shards.items) cell [])
   pub looks : length s.looks.items ≡ length s.shards.items + 1
   pub book_own : AllByRecursion (λ e. author_of (logged.Book e) ≡ 1) s.book.entries
   pub topics : AllByRecursion (IsFitEntry s.names) s.book.entries

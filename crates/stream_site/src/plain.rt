@@ -1,10 +1,10 @@
 // A site in memory, of one writer.
 ghost use Rattle.std.specs.Prelude.{ℕ, ◌≡◌, ◌<◌, ◌≤◌, ◌↔◌, true, List, [], get_or, length, map, Decides, IfOk, IsErrOf, OnErr, OnOk};
 ghost use Rattle.query_syntax.specs.Meaning.{IsReadable};
-ghost use Rattle.shard_versions.specs.Fitness.{AreStorable};
 ghost use Rattle.shard_versions.specs.Shards.{Shard};
 ghost use Rattle.topic_book.specs.Fitness.{shards_of, IsOnCollections};
 ghost use Rattle.once_core.specs.Allowed.{MayStore};
+ghost use Rattle.once_core.specs.Law.{IsFitCell};
 ghost use Rattle.exchange_rules.specs.Bindings.{bind_course, store_course, topic_state_course};
 ghost use Rattle.exchange_rules.specs.Calls.{Answered, Completed};
 ghost use Rattle.exchange_rules.specs.Cells.{history_in, write};
@@ -236,7 +236,7 @@ impl PlainSite {
     fn append(&mut self, cell: u32, step: Step) -> Result<(), ShardFault>
         requires in_range { HasCell (layout_of self.old) (writer_of self.old) cell }
         requires own { AreBy 1 step }
-        requires storable { AreStorable step }
+        requires fit { IsFitCell self.old.names cell step }
         ensures ok { OnOk result
             (writer_of self.new ≡ made (writer_of self.old) cell (map write (kinds_of step))) }
         ensures err { OnErr result (writer_of self.new ≡ writer_of self.old) }

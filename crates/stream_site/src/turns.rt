@@ -13,6 +13,7 @@ pub trait Turns {
     ghost use Rattle.topic_book.specs.Cells.{cells_in};
     ghost use Rattle.topic_book.specs.States.{IsCauseOf, IsOpenTo};
     ghost use Rattle.once_core.specs.Allowed.{MayStore};
+    ghost use Rattle.once_core.specs.Law.{IsFitCell};
     ghost use Rattle.exchange_rules.specs.Bindings.{book_cell, book_seen};
     ghost use Rattle.exchange_rules.specs.Cells.{payload_of, history_in, write};
     ghost use Rattle.exchange_rules.specs.Deliveries.{admitted_kinds};
@@ -43,11 +44,15 @@ pub trait Turns {
     /// What stays from one moment of the writer to a later one.
     ghost later: { Self → Self → Type 0 };
 
-    /// The collections. There is a cell for each of their shards, and the book's.
+    /// The collections. There is a cell for each of their shards, and the book's. What the writer
+    /// has seen of a shard's cell belongs there.
     fn names(&self) -> &Names
         ensures names { result.now ≡ (layout self.now).names }
         ensures cells { length (writer self.now).seen ≡ cells_in (layout self.now).names + 1 }
-        ensures few { cells_in (layout self.now).names < 2 ^ 32 };
+        ensures few { cells_in (layout self.now).names < 2 ^ 32 }
+        ensures fit { (cell : ℕ) → cell < cells_in (layout self.now).names
+            → IsFitCell (layout self.now).names cell
+            (history_in (get_or (writer self.now).seen cell [])) };
 
     /// The writer's number, which its entries carry.
     fn number(&self) -> u64

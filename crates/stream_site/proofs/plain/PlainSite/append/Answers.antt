@@ -1,15 +1,86 @@
-use Rattle.std.proofs.Common.{◌≡◌, ◌∷◌, ◌++◌, [], List, length, map, set, ap, ◌∙◌, subst, refl}
+use Rattle.std.proofs.Common.{◌≡◌, ◌+◌, ◌∷◌, ◌++◌, [], List, length-set, length, map, set, sym, ap, ◌∙◌, subst, refl}
+use Rattle.site_laws.proofs.WriteLemmas.{fit-storable}
+use Rattle.shard_versions.specs.Shards.{Shard}
 use Rattle.shard_versions.specs.declared.cut.OwnMark.{OwnMark}
+use Rattle.shard_versions.specs.declared.entry.Entry.{Entry}
+use Rattle.shard_versions.proofs.ListLemmas.{each_append, each_at}
 use Rattle.topic_book.specs.Cells.{cells_in}
+use Rattle.once_core.specs.Law.{IsFitCell}
 use Rattle.exchange_rules.specs.Cells.{write}
 use Rattle.exchange_rules.specs.Following.{Writer}
 use Rattle.exchange_rules.specs.Primitives.{made}
-use Rattle.exchange_rules.specs.Steps.{kinds_of}
+use Rattle.exchange_rules.specs.Steps.{AreBy, kinds_of}
 use Rattle.stream_site.specs.Plains.{Plain, writer_of}
 use Rattle.stream_site.specs.Sites.{plain_in}
-use Rattle.stream_site.proofs.PlainLemmas.{histories_of, in_shards, plain_kept, plain_made, full_at}
+use Rattle.stream_site.proofs.FitLemmas.{each-set, same-fit, step-fit}
+use Rattle.stream_site.proofs.PlainLemmas.{histories_of, in_shards, limit_at, plain_kept, plain_made, full_at}
 use Rattle.stream_site.proofs.TestLemmas.{iff_join, iff_never, ok_is_no_err, memory_is_no_full}
 use Rattle.stream_site.proofs.plain.PlainSite.append.Goals as goal
+
+pub reserve-requires : goal.reserve-requires
+reserve-requires c =
+    fit-storable c.args.self.now.names c.args.cell c.args.step c.requires.in_range.in_range
+    c.requires.fit
+
+pub append-requires-clause-storable : goal.append-requires-clause-storable
+append-requires-clause-storable c =
+    fit-storable c.args.self.now.names c.args.cell c.args.step c.requires.in_range.in_range
+    c.requires.fit
+
+pub invariant_of-self-in-Err-reserve : goal.invariant_of-self-in-Err-reserve
+invariant_of-self-in-Err-reserve c =
+    let shards = c.self.inside.shards.items in
+    let cell = c.args.cell in
+    let x = c.index_mut-shard.result.now in
+    let y = c.reserve.new.self in
+    let old = c.self.invariant in
+    let counted = old.counted ∙ ap (λ (p : Plain). cells_in p.names) c.self.view_is in
+    let lt = in_shards c.args.self.now cell (length shards) c.requires.in_range counted in
+    let is = c.index_mut-shard.ensures.value in
+    let by = subst (λ (s : Shard). AreBy 1 s.entries) (sym is)
+    (each_at (λ (s : Shard). AreBy 1 s.entries) shards cell x lt old.own) in
+    record {
+      counted = length-set shards cell y ∙ old.counted;
+      few = old.few;
+      limits = each-set (λ (s : Shard). s.limit ≡ c.self.inside.limit) shards cell y old.limits
+          (c.in-Ok.ensures.limit ∙ limit_at c.self.inside.limit shards cell x old.limits lt is);
+      own = each-set (λ (s : Shard). AreBy 1 s.entries) shards cell y old.own
+          (subst (AreBy 1) (sym c.in-Ok.ensures.entries) by);
+      fit = same-fit c.self.inside.names shards cell x y old.fit lt is c.in-Ok.ensures.entries;
+      looks = old.looks ∙ ap (λ n. n + 1) (sym (length-set shards cell y));
+      book_own = old.book_own;
+      topics = old.topics;
+    }
+
+pub invariant_of-self-2 : goal.invariant_of-self-2
+invariant_of-self-2 c =
+    let shards = c.self.inside.shards.items in
+    let cell = c.args.cell in
+    let x = c.index_mut-shard.result.now in
+    let y = c.append.new.self in
+    let old = c.self.invariant in
+    let counted = old.counted ∙ ap (λ (p : Plain). cells_in p.names) c.self.view_is in
+    let lt = in_shards c.args.self.now cell (length shards) c.requires.in_range counted in
+    let is = c.index_mut-shard.ensures.value in
+    let by = subst (λ (s : Shard). AreBy 1 s.entries) (sym is)
+    (each_at (λ (s : Shard). AreBy 1 s.entries) shards cell x lt old.own) in
+    let after = c.append.ensures.entries ∙ ap (λ h. h ++ c.args.step) c.in-Ok.ensures.entries in
+    record {
+      counted = length-set shards cell y ∙ old.counted;
+      few = old.few;
+      limits = each-set (λ (s : Shard). s.limit ≡ c.self.inside.limit) shards cell y old.limits
+          (c.append.ensures.limit ∙ (c.in-Ok.ensures.limit
+          ∙ limit_at c.self.inside.limit shards cell x old.limits lt is));
+      own = each-set (λ (s : Shard). AreBy 1 s.entries) shards cell y old.own
+          (subst (AreBy 1) (sym after)
+          (each_append (λ (e : Entry). e.by ≡ 1) x.entries c.args.step by c.requires.own));
+      fit = step-fit c.self.inside.names shards cell x y c.args.step old.fit lt is after
+          (subst (λ n. IsFitCell n cell c.args.step)
+          (sym (ap (λ (p : Plain). p.names) c.self.view_is)) c.requires.fit);
+      looks = old.looks ∙ ap (λ n. n + 1) (sym (length-set shards cell y));
+      book_own = old.book_own;
+      topics = old.topics;
+    }
 
 pub returns-in-Err-clause-err : goal.returns-in-Err-clause-err
 returns-in-Err-clause-err c =

@@ -6,6 +6,9 @@ use Rattle.topic_book.specs.Fitness.{IsFitEntry}
 use Rattle.exchange_rules.specs.Cells.{author_of}
 use Rattle.exchange_rules.specs.declared.log_entry.LogEntry.TheVariants as logged
 use Rattle.stream_site.proofs.EmptyLemmas.{empty_long, empty_own}
+use Rattle.stream_site.proofs.FitLemmas.{empty-fit}
+use Rattle.once_core.specs.Law.{IsFitCell}
+use Rattle.std.specs.Prelude.{get_or, []}
 use Rattle.stream_site.proofs.plain.PlainSite.start.Goals as goal
 
 pub invariant_of-result : goal.invariant_of-result
@@ -21,6 +24,8 @@ invariant_of-result c =
       few = omega (arith, long, names, c.len.ensures, c.if-len.false);
       limits = empty.limits;
       own = empty_own (cells_in c.as_slice.result.now) c.in_ok-shards.shards.items empty.entries;
+      fit = λ cell. subst (λ hs. IsFitCell c.args.names cell (get_or hs cell []))
+          (sym empty.entries) (empty-fit c.args.names (cells_in c.as_slice.result.now) cell);
       looks = omega (arith, zeros, c.len-2.ensures, few);
       book_own = subst (AllByRecursion (λ e. author_of (logged.Book e) ≡ 1))
           (sym c.empty.ensures) tt;

@@ -50,8 +50,8 @@ append-requires-clause-own c =
     c.in-Ok-close.ensures in
     done.own
 
-pub append-requires-clause-storable : goal.append-requires-clause-storable
-append-requires-clause-storable c =
+pub append-requires-clause-fit : goal.append-requires-clause-fit
+append-requires-clause-fit c =
     let p = c.args.self.now in
     let counted = c.self.invariant.counted ∙ ap (λ (x : Plain). cells_in x.names) c.self.view_is in
     let kept = kept_here p c.self.inside.shards.items c.args.cell c.index.result.now c.args.step
@@ -60,7 +60,7 @@ append-requires-clause-storable c =
     let lt : 0 < length c.in-Ok.kept = omega (arith, c.len-count.ensures, c.if-count-eq0.false) in
     let done = done_of p c.args.cell c.args.step c.in-Ok.kept c.in-Ok-close.whole kept lt
     c.in-Ok-close.ensures in
-    done.storable
+    done.fit
 
 pub returns-in-Ok-append-clause-ok : goal.returns-in-Ok-append-clause-ok
 returns-in-Ok-append-clause-ok c =
