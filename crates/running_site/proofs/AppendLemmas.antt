@@ -1,14 +1,12 @@
 -- What a pass can append in its turn, or why it can't.
-use Rattle.std.proofs.Common.{◌≡◌, ◌↔◌, ℕ, ◌<◌, true, false, List, [], ◌∷◌, refl, sym, ap, ◌∙◌, subst}
-use Rattle.std.specs.Prelude.{IfErr, IfSome, OnOk, Option, Some, None, Result, Ok, Err, IsErrOf}
+use Rattle.std.proofs.Common.{◌≡◌, ◌↔◌, ℕ, List, ap}
+use Rattle.std.specs.Prelude.{IfErr, IfSome, OnOk, Some, Result, Ok, Err, IsErrOf}
 use Rattle.tuple_values.specs.declared.names.NameShards.{NameShards}
-use Rattle.shard_versions.specs.declared.entry.Entry.{Entry}
 use Rattle.shard_versions.specs.declared.fault.ShardFault.{ShardFault}
 use Rattle.shard_versions.specs.declared.fault.ShardFault.TheVariants as shard
 use Rattle.topic_book.specs.Books.{Book}
 use Rattle.topic_book.specs.States.{IsCauseOf}
 use Rattle.topic_book.specs.declared.topic.BookEntry.{BookEntry}
-use Rattle.exchange_rules.specs.Cells.{Log, history_in}
 use Rattle.exchange_rules.specs.declared.log_entry.LogEntry.{LogEntry}
 use Rattle.site_laws.specs.Sealings.{MayAppend}
 use Rattle.site_laws.specs.declared.cell_about.CellAbout.{CellAbout}

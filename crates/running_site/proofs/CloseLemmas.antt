@@ -1,17 +1,15 @@
 -- What a closed site gives.
-use Rattle.std.proofs.Common.{◌≡◌, ◌≢◌, ℕ, zero, suc, ◌+◌, ◌<◌, ◌≤◌, true, false, List, [], ◌∷◌, ◌++◌, length, get_or, map, replicate, refl, sym, ap, ◌∙◌, subst, arith}
-use Rattle.std.specs.Prelude.{All, Contains, IfOk, Result, Ok, Err, Some}
+use Rattle.std.proofs.Common.{◌≡◌, ◌≢◌, ℕ, zero, suc, ◌+◌, ◌<◌, List, [], ◌∷◌, ◌++◌, length, get_or, map, replicate, refl, sym, ap, ◌∙◌, subst, arith}
+use Rattle.std.specs.Prelude.{All, Contains, IfOk, Result, Ok, Err}
 use Rattle.std.specs.List.{AllByRecursion}
 use Rattle.std.proofs.lemmas.List.{get_or_default, length-map}
 use Rattle.tuple_values.specs.declared.names.NameShards.{NameShards}
 use Rattle.atomic_table.specs.Seated.{TableId}
-use Rattle.shard_versions.specs.Histories.{History}
 use Rattle.topic_book.specs.Cells.{cells_in}
 use Rattle.once_core.specs.Law.{IsLaw}
 use Rattle.once_core.specs.declared.world.Histories.{Histories}
 use Rattle.exchange_rules.specs.Cells.{Log, author_of, book_in, history_in, log_of, log_of_book}
 use Rattle.exchange_rules.specs.Rows.{Layout}
-use Rattle.exchange_rules.specs.declared.log_entry.LogEntry.{LogEntry}
 use Rattle.exchange_rules.proofs.StepLemmas.{history_in-log_of}
 use Rattle.site_laws.specs.Sealings.{names_told}
 use Rattle.site_laws.specs.SiteCells.{histories_in, shards_in, IsLawful}

@@ -1,14 +1,13 @@
 -- At which cells a cut looks, and what is seen there of stored checkpoints.
-use Rattle.std.proofs.Common.{◌≡◌, ◌≢◌, ◌⊎◌, ℕ, zero, suc, ◌+◌, ◌<◌, ◌≤◌, ◌==◌, Bool, true, false, cond, List, [], ◌∷◌, ◌++◌, length, get_or, slice_index, refl, sym, ap, ◌∙◌, subst, arith, inl, inr}
-use Rattle.std.specs.Prelude.{count_by, Contains, Option, Some, None, Result, Ok, Err, OnOk}
-use Rattle.std.specs.List.{AllByRecursion}
+use Rattle.std.proofs.Common.{◌≡◌, ◌≢◌, ◌⊎◌, ℕ, zero, suc, ◌+◌, ◌<◌, ◌≤◌, ◌==◌, true, false, cond, List, [], ◌∷◌, length, get_or, slice_index, refl, sym, ap, ◌∙◌, subst, arith, inl, inr}
+use Rattle.std.specs.Prelude.{Contains, Some, Result, Ok, Err, OnOk}
 use Rattle.std.proofs.lemmas.Bool.{cases_eq, eq-eqb}
 use Rattle.std.proofs.lemmas.Bool.Decides.{eqb_tells}
 use Rattle.tuple_values.specs.Document.{ByteList}
 use Rattle.tuple_values.specs.declared.names.NameShards.{NameShards}
 use Rattle.shard_versions.specs.declared.cut.CutMark.{CutMark}
 use Rattle.shard_versions.specs.declared.cut.CutPart.{CutPart}
-use Rattle.topic_book.specs.Cells.{cells_in, cell_of, place_of, Place}
+use Rattle.topic_book.specs.Cells.{cell_of, place_of, Place}
 use Rattle.topic_book.specs.Fitness.{shards_of}
 use Rattle.exchange_rules.specs.Accesses.{Access, a_look, a_step, at_mark, had_after, looks_at, marks_of}
 use Rattle.exchange_rules.specs.Calls.{Completed, HasAppended}

@@ -1,11 +1,11 @@
 -- A pass that gave its turn back.
 use Rattle.std.proofs.Common.{◌≡◌, ℕ, List, refl, sym, ap, ◌∙◌, subst, inl, inr}
-use Rattle.std.specs.Prelude.{Option, Some, None}
+use Rattle.std.specs.Prelude.{Some, None}
 use Rattle.std.proofs.lemmas.Bool.{cases_eq}
 use Rattle.std.proofs.lemmas.List.{get_or-set_other}
 use Rattle.tuple_values.specs.declared.names.NameShards.{NameShards}
 use Rattle.exchange_rules.specs.declared.log_entry.LogEntry.{LogEntry}
-use Rattle.site_laws.specs.Looks.{IsLater, Sight}
+use Rattle.site_laws.specs.Looks.{IsLater}
 use Rattle.site_laws.specs.declared.cell_about.CellAbout.{CellAbout}
 use Rattle.site_laws.proofs.LaterLemmas.{later-self}
 use Rattle.turn_table.specs.Knowledge.{gave, hand}
@@ -24,7 +24,11 @@ module _ (names : List NameShards) (limit : ℕ) (k k2 : Known CellAbout LogEntr
       let turn = v.holding t refl in
       record {
         knowing = subst (IsKnowing names limit) (sym gone)
-            (record { about = v.knowing.about; since = v.knowing.since });
+            (record {
+              about = v.knowing.about;
+              since = v.knowing.since;
+              fit = v.knowing.fit;
+            });
         idle = λ _ c. elim (cases_eq c t.cell) [
           | inl same ↦ ap (hand k2) same ∙ free
           | inr apart ↦

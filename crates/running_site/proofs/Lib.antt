@@ -15,3 +15,5 @@ pub mod AppendLemmas
 pub mod StartLemmas
 pub mod VisitLemmas
 pub mod TestLemmas
+pub mod EndLemmas
+pub mod FitLemmas

@@ -1,6 +1,6 @@
 -- A pass that took a turn and looked in it.
-use Rattle.std.proofs.Common.{◌≡◌, ◌≢◌, ℕ, ◌+◌, ◌<◌, List, [], ◌∷◌, ◌++◌, length, get_or, set, slice_index, refl, sym, ap, ◌∙◌, subst, arith, length-set}
-use Rattle.std.specs.Prelude.{All, Option, Some, None, slice_get}
+use Rattle.std.proofs.Common.{◌≡◌, ◌≢◌, ℕ, ◌<◌, List, [], ◌∷◌, ◌++◌, length, get_or, set, slice_index, refl, sym, ap, ◌∙◌, subst, arith, length-set}
+use Rattle.std.specs.Prelude.{All, Some, None, slice_get}
 use Rattle.std.proofs.lemmas.List.{get_or-set_other}
 use Rattle.tuple_values.specs.declared.names.NameShards.{NameShards}
 use Rattle.shard_versions.specs.declared.cut.CutMark.{CutMark}
@@ -16,14 +16,15 @@ use Rattle.site_laws.specs.declared.cell_about.CellAbout.{CellAbout}
 use Rattle.site_laws.proofs.LaterLemmas.{later-look}
 use Rattle.turn_table.specs.Calls.{turn_about, turn_history}
 use Rattle.turn_table.specs.Histories.{at}
-use Rattle.turn_table.specs.Knowledge.{hand, looked, took, waited, IsFree, IsWide}
+use Rattle.turn_table.specs.Knowledge.{hand, looked, took, waited}
 use Rattle.turn_table.specs.Steps.{AddsOthers, Glimpse}
 use Rattle.turn_table.specs.declared.knowledge.Known.{Known}
 use Rattle.turn_table.specs.declared.turn.Turn.{Turn}
 use Rattle.site_cells.specs.Values.{about_in, law_of, log_of_cell, tells_of}
 use Rattle.site_cells.specs.declared.site_cell.SiteCell.{SiteCell}
-use Rattle.running_site.specs.Passes.{sight_in, writer_in}
+use Rattle.running_site.specs.Passes.{sight_in, writer_in, AreSeenFit}
 use Rattle.running_site.specs.Visits.{AreCounted, IsTurn, IsVisit}
+use Rattle.running_site.proofs.FitLemmas.{lawful-fit, set-fit}
 use Rattle.running_site.proofs.KnownLemmas.{are-were, each_of, names_of, one_more_is}
 use Rattle.running_site.proofs.TopicLemmas.{counted-fit}
 
@@ -122,6 +123,10 @@ module _ (k k1 k2 : Known CellAbout LogEntry) (cell count : ℕ) (t : Turn SiteC
             about = about-is ∙ v.knowing.about;
             since = λ c looked.
                 are-were (last_seen (sight_in k2) c) k2.seen (g.since c looked);
+            fit = subst (λ (x : Known CellAbout LogEntry). AreSeenFit names x.seen)
+                (sym known-is) (set-fit names k.seen cell h lt v.knowing.fit
+                (lawful-fit names g.histories cell h lawful
+                (sym seen ∙ (g.whole ∙ ap (λ c. get_or g.histories c []) here))));
           };
           idle = λ e. absurd (cc);
           holding = λ u e. let same : t ≡ u = cc in subst (IsTurn names k2) same turn;

@@ -1,5 +1,5 @@
 -- A pass that appended in its turn.
-use Rattle.std.proofs.Common.{◌≡◌, ◌≢◌, ℕ, ◌+◌, ◌-◌, ◌<◌, ◌≤◌, true, List, [], ◌∷◌, ◌++◌, length, get_or, map, set, refl, sym, ap, ◌∙◌, subst, arith, length-append, length-set, inl, inr}
+use Rattle.std.proofs.Common.{◌≡◌, ℕ, ◌+◌, ◌<◌, true, List, [], ◌∷◌, ◌++◌, length, map, set, refl, sym, ap, ◌∙◌, subst, arith, length-append, length-set}
 use Rattle.std.specs.Prelude.{IfSome, Option, Some, None, is_some, slice_get}
 use Rattle.std.specs.List.{AllByRecursion}
 use Rattle.std.proofs.lemmas.List.{get_or-set_other, length-map}
@@ -7,14 +7,13 @@ use Rattle.tuple_values.specs.declared.names.NameShards.{NameShards}
 use Rattle.shard_versions.specs.declared.cut.CutMark.{CutMark}
 use Rattle.shard_versions.specs.declared.cut.OwnMark.{OwnMark}
 use Rattle.shard_versions.specs.declared.entry.Entry.{Entry}
-use Rattle.shard_versions.proofs.ListLemmas.{each_append}
 use Rattle.topic_book.specs.Cells.{cells_in}
 use Rattle.topic_book.specs.Fitness.{IsFitEntry}
 use Rattle.topic_book.specs.declared.topic.BookEntry.{BookEntry}
 use Rattle.topic_book.specs.declared.topic.BookEntry.TheVariants as book
 use Rattle.exchange_rules.specs.Cells.{Log, Payload, book_in, payload_of, signed, write}
 use Rattle.exchange_rules.specs.Primitives.{made}
-use Rattle.exchange_rules.specs.Steps.{AreBy, kinds_of}
+use Rattle.exchange_rules.specs.Steps.{kinds_of}
 use Rattle.exchange_rules.specs.declared.log_entry.LogEntry.{LogEntry}
 use Rattle.exchange_rules.specs.declared.log_entry.LogEntry.TheVariants as logged
 use Rattle.exchange_rules.proofs.StepLemmas.{log_of-signed}
@@ -40,6 +39,7 @@ use Rattle.site_cells.specs.declared.site_cell.SiteCell.{SiteCell}
 use Rattle.running_site.specs.Passes.{sight_in, writer_in, IsKnowing}
 use Rattle.running_site.specs.Seals.{IsSealed}
 use Rattle.running_site.specs.Visits.{AreCounted, IsTurn, IsVisit}
+use Rattle.running_site.proofs.FitLemmas.{sealed-fit}
 use Rattle.running_site.proofs.KnownLemmas.{are-were, seen-more, were-are}
 use Rattle.running_site.proofs.TopicLemmas.{counted-more}
 use Rattle.running_site.proofs.ValueLemmas.{step-by}
@@ -159,6 +159,7 @@ module _ (names : List NameShards) (limit : ℕ) (k k2 : Known CellAbout LogEntr
             are-were (last_seen (sight_in k) c) (set k.seen cell now)
             (seen-more (last_seen (sight_in k) c) k.seen cell (entries_of x) lt
             (were-are (last_seen (sight_in k) c) k.seen (v.knowing.since c looked)));
+        fit = sealed-fit names k.number k.seen cell x v.knowing.fit may lt;
       } in
       let turn : IsTurn names k2 u = record {
         within = omega (arith, longer, within, same);

@@ -1,6 +1,6 @@
 -- The passes and the cells with which a site starts.
-use Rattle.std.proofs.Common.{◌≡◌, ◌≢◌, ℕ, zero, suc, ◌+◌, ◌<◌, List, [], ◌∷◌, ◌++◌, length, get_or, map, replicate, slice_index, refl, sym, ap, ◌∙◌, subst, arith}
-use Rattle.std.specs.Prelude.{All, Contains, Option, Some, None}
+use Rattle.std.proofs.Common.{◌≡◌, ℕ, zero, suc, ◌+◌, ◌<◌, List, [], ◌∷◌, length, get_or, map, replicate, slice_index, refl, sym, ap, ◌∙◌, subst, arith}
+use Rattle.std.specs.Prelude.{All, Option, Some, None}
 use Rattle.std.specs.List.{AllByRecursion}
 use Rattle.std.proofs.lemmas.List.{length-map, length-replicate}
 use Rattle.tuple_values.specs.declared.names.NameShards.{NameShards}
@@ -8,16 +8,14 @@ use Rattle.atomic_table.specs.Seated.{TableId}
 use Rattle.topic_book.specs.Cells.{cells_in}
 use Rattle.shard_versions.specs.declared.cut.CutMark.{CutMark}
 use Rattle.shard_versions.specs.declared.cut.OwnMark.{OwnMark}
-use Rattle.exchange_rules.specs.Cells.{Log, author_of}
-use Rattle.exchange_rules.specs.Following.{Writer}
 use Rattle.exchange_rules.specs.declared.log_entry.LogEntry.{LogEntry}
-use Rattle.site_laws.specs.Looks.{last_seen, Sight}
+use Rattle.site_laws.specs.Looks.{last_seen}
 use Rattle.site_laws.specs.Sealings.{names_told}
 use Rattle.site_laws.specs.SiteCells.{AreSeenOf, IsLawful}
 use Rattle.site_laws.specs.declared.cell_about.CellAbout.{CellAbout}
 use Rattle.site_laws.proofs.KeepLemmas.{nothing-lawful}
 use Rattle.turn_table.specs.Calls.{known, table_of}
-use Rattle.turn_table.specs.Knowledge.{fresh, hand, IsFree}
+use Rattle.turn_table.specs.Knowledge.{fresh, hand}
 use Rattle.turn_table.specs.declared.knowledge.Known.{Known}
 use Rattle.site_cells.specs.Cells.{abouts_of, no_logs}
 use Rattle.site_cells.specs.Values.{about_in, log_of_cell}
@@ -26,6 +24,7 @@ use Rattle.running_site.specs.Passes.{layout_in, new_writer, sight_in, sight_whe
 use Rattle.running_site.specs.Records.{content, recorded}
 use Rattle.running_site.specs.declared.pass.PassOf.{PassOf}
 use Rattle.running_site.proofs.CloseLemmas.{all-of}
+use Rattle.running_site.proofs.FitLemmas.{fresh-fit}
 use Rattle.running_site.proofs.KnownLemmas.{names_of, were-are}
 
 -- the same thing lies at each place
@@ -76,6 +75,7 @@ module _ (names : List NameShards) (limit : ℕ) (abouts : List CellAbout) (coun
     about = told;
     since = λ cell looked.
         let none = all-same count cell (let z : ℕ = 0 in z) in absurd (omega (arith, none, looked));
+    fit = fresh-fit names count;
   }
 
   -- each new pass is the table's

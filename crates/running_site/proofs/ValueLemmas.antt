@@ -1,23 +1,20 @@
 -- What lies in the cell whose turn a pass has, by what the pass has seen of it.
-use Rattle.std.proofs.Common.{◌≡◌, ◌↔◌, ℕ, ◌+◌, ◌<◌, true, false, List, [], ◌∷◌, ◌++◌, get_or, refl, sym, ap, ◌∙◌, subst, arith, inl, inr}
-use Rattle.std.specs.Prelude.{IfSome, Option, Some, None, option_map, slice_get}
+use Rattle.std.proofs.Common.{◌≡◌, ◌↔◌, ℕ, ◌<◌, true, List, [], get_or, refl, sym, ap, ◌∙◌, subst, inl, inr}
+use Rattle.std.specs.Prelude.{Some, option_map, slice_get}
 use Rattle.std.specs.List.{AllByRecursion}
 use Rattle.tuple_values.specs.declared.names.NameShards.{NameShards}
-use Rattle.shard_versions.specs.Deliveries.{admitted, marked}
+use Rattle.shard_versions.specs.Deliveries.{admitted}
 use Rattle.shard_versions.specs.Fitness.{is_storable_kind, AreStorable}
 use Rattle.shard_versions.specs.Shards.{Shard}
 use Rattle.shard_versions.specs.declared.entry.Entry.{Entry}
 use Rattle.shard_versions.proofs.DeliveryLemmas.{admitted-each, marked-each}
 use Rattle.topic_book.specs.Cells.{cells_in}
-use Rattle.topic_book.specs.Fitness.{IsFitEntry, MayFollow}
 use Rattle.topic_book.specs.States.{Kept}
-use Rattle.topic_book.specs.declared.topic.BookEntry.{BookEntry}
-use Rattle.exchange_rules.specs.Cells.{Log, book_in, history_in, log_of, log_of_book}
+use Rattle.exchange_rules.specs.Cells.{Log, book_in, history_in}
 use Rattle.exchange_rules.specs.Steps.{AreBy}
 use Rattle.exchange_rules.specs.declared.log_entry.LogEntry.{LogEntry}
 use Rattle.exchange_rules.proofs.StepLemmas.{history_in-log_of}
-use Rattle.site_laws.specs.Duties.{MayAppendEntry}
-use Rattle.site_laws.specs.Sealings.{IsAdmitted, MayAppend}
+use Rattle.site_laws.specs.Sealings.{MayAppend}
 use Rattle.site_laws.specs.declared.cell_about.CellAbout.{CellAbout}
 use Rattle.site_laws.specs.declared.sealing.Sealing.{Sealing}
 use Rattle.site_laws.specs.declared.sealing.Sealing.TheVariants as sealing

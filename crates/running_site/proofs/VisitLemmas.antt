@@ -1,5 +1,5 @@
 -- A pass that comes to its site, and goes.
-use Rattle.std.proofs.Common.{◌≡◌, ℕ, List, refl, sym, ap, ◌∙◌, subst}
+use Rattle.std.proofs.Common.{◌≡◌, ℕ, List, refl, sym, ◌∙◌, subst}
 use Rattle.std.specs.Prelude.{Option, Some, None}
 use Rattle.tuple_values.specs.declared.names.NameShards.{NameShards}
 use Rattle.atomic_table.specs.Seated.{TableId}

@@ -2,3 +2,4 @@ pub mod Passes
 pub mod Visits
 pub mod Seals
 pub mod Records
+pub mod Ends

@@ -1,11 +1,13 @@
 -- What a pass of a site is seen as, and what is true of it between two calls (own).
-use Rattle.std.specs.Prelude.{ℕ, zero, suc, ◌≡◌, ◌<◌, ◌+◌, ◌++◌, ◌∷◌, [], List, Option, None, Some, get_or, length, map, replicate, slice_index, take}
+use Rattle.std.specs.Prelude.{ℕ, zero, suc, ◌≡◌, ◌<◌, ◌+◌, ◌++◌, ◌∷◌, [], true, List, Option, None, Some, get_or, length, map, replicate, slice_index, take}
+use Rattle.std.specs.List.{list_all}
 use Rattle.tuple_values.specs.declared.names.NameShards.{NameShards}
 use Rattle.atomic_table.specs.Seated.{TableId}
+use Rattle.shard_versions.specs.Fitness.{is_fit}
 use Rattle.shard_versions.specs.declared.cut.CutMark.{CutMark}
 use Rattle.shard_versions.specs.declared.cut.OwnMark.{OwnMark}
 use Rattle.exchange_rules.specs.declared.log_entry.LogEntry.{LogEntry}
-use Rattle.exchange_rules.specs.Cells.{Log}
+use Rattle.exchange_rules.specs.Cells.{Log, history_in}
 use Rattle.exchange_rules.specs.Following.{Writer}
 use Rattle.exchange_rules.specs.Rows.{Layout}
 use Rattle.site_laws.specs.Looks.{last_seen, Sight}
@@ -16,7 +18,7 @@ use Rattle.turn_table.specs.declared.knowledge.Known.{Known}
 use Rattle.turn_table.specs.declared.pass.Pass.{Pass}
 use Rattle.site_cells.specs.Cells.{abouts_of, no_logs}
 use Rattle.site_cells.specs.Values.{about_in, log_of_cell}
-use Rattle.topic_book.specs.Cells.{cells_in}
+use Rattle.topic_book.specs.Cells.{Place, cells_in, place_of}
 use Rattle.site_cells.specs.declared.site_cell.SiteCell.{SiteCell}
 use Rattle.running_site.specs.declared.pass.PassOf.{PassOf}
 
@@ -68,12 +70,21 @@ abbrev pub WereSeen : List Log → List Log → Type 0
 WereSeen early late =
     (cell : ℕ) → take (length (get_or early cell [])) (get_or late cell []) ≡ get_or early cell []
 
--- a pass that is told which cells there are, and has seen all that its looks showed
+-- what was seen of each shard's cell belongs there
+abbrev pub AreSeenFit : List NameShards → List Log → Type 0
+AreSeenFit names seen =
+    (cell : ℕ) (place : Place) → cell < cells_in names → place_of names cell ≡ Some place
+    → list_all (λ e. is_fit place.shards place.shard e.kind) (history_in (get_or seen cell []))
+    ≡ true
+
+-- a pass that is told which cells there are, and has seen all that its looks showed, and of each
+-- shard what belongs there
 pub record IsKnowing (names : List NameShards) (limit : ℕ) (k : Known CellAbout LogEntry)
     : Type 0 where
   pub about : k.about ≡ abouts_of names limit
   pub since : (cell : ℕ) → 0 < slice_index k.looks cell
       → WereSeen (last_seen (sight_in k) cell) k.seen
+  pub fit : AreSeenFit names k.seen
 
 -- the cells with which a site of these collections started: all had no entry
 pub record IsOpened (names : List NameShards) (limit : ℕ) (cells : List SiteCell) : Type 0 where

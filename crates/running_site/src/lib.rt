@@ -3,6 +3,7 @@
 
 mod calls;
 mod empty;
+mod law;
 mod numbers;
 mod opening;
 mod pass;
@@ -16,6 +17,7 @@ mod visiting;
 mod writing;
 
 pub use exchange_rules::{Batch, BatchItem, LogEntry, Sent, SiteFault};
+pub use law::passes_have_one_end;
 pub use once_core::Histories;
 pub use pass::{Pass, PassOf, Passes};
 pub use shard_versions::{Cut, CutMark, CutMarks, CutPart, OwnMark, OwnMarks, Record};

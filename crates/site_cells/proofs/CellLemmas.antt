@@ -1,5 +1,5 @@
 -- The logs of cells, as histories.
-use Rattle.std.proofs.Common.{◌≡◌, ℕ, zero, suc, ◌+◌, ◌<◌, List, [], ◌∷◌, ◌++◌, length, get_or, map, refl, sym, ap, ◌∙◌, subst, arith, length-append}
+use Rattle.std.proofs.Common.{◌≡◌, ℕ, zero, suc, ◌+◌, List, [], ◌∷◌, ◌++◌, length, get_or, map, refl, sym, ap, ◌∙◌, subst, arith, length-append}
 use Rattle.tuple_values.specs.declared.names.NameShards.{NameShards}
 use Rattle.shard_versions.specs.Histories.{History}
 use Rattle.topic_book.specs.Books.{Book}

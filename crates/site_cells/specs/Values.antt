@@ -1,5 +1,5 @@
 -- What a cell of a site is told and has, and what it takes (own).
-use Rattle.std.specs.Prelude.{ℕ, ◌≡◌, ◌+◌, ◌<◌, true, false, List}
+use Rattle.std.specs.Prelude.{ℕ, ◌+◌, ◌<◌, true, false, List}
 use Rattle.tuple_values.specs.declared.names.NameShards.{NameShards}
 use Rattle.shard_versions.specs.Fitness.{AreStorable}
 use Rattle.shard_versions.specs.Shards.{HasRoom, Shard}

@@ -1,4 +1,4 @@
-use Rattle.std.proofs.Common.{◌≡◌, ◌++◌, ◌∷◌, [], map, sym, ap, ◌∙◌}
+use Rattle.std.proofs.Common.{map, ap, ◌∙◌}
 use Rattle.running_site.specs.Records.{content}
 use Rattle.running_site.proofs.RecordLemmas.{content-push}
 use Rattle.running_site.proofs.record.with_records.Goals as goal

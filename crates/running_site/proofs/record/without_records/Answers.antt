@@ -1,4 +1,4 @@
-use Rattle.std.proofs.Common.{◌≡◌, ◌∙◌}
+use Rattle.std.proofs.Common.{◌∙◌}
 use Rattle.running_site.proofs.RecordLemmas.{passes-push}
 use Rattle.running_site.proofs.record.without_records.Goals as goal
 

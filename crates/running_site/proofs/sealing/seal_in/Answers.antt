@@ -1,4 +1,4 @@
-use Rattle.std.proofs.Common.{◌≡◌, refl, sym, ap, ◌∙◌, subst}
+use Rattle.std.proofs.Common.{subst}
 use Rattle.turn_table.specs.Calls.{known}
 use Rattle.running_site.specs.Seals.{IsSealed}
 use Rattle.running_site.proofs.AppendLemmas.{append-can}

@@ -1,4 +1,4 @@
-use Rattle.std.proofs.Common.{◌≡◌, ℕ, ◌+◌, ◌-◌, ◌≤◌, ◌++◌, length, refl, sym, ap, ◌∙◌, subst, arith, length-append}
+use Rattle.std.proofs.Common.{◌-◌, length, refl, sym, ap, ◌∙◌, subst, arith, length-append}
 use Rattle.site_laws.specs.Sealings.{entries_of, names_told, MayAppend}
 use Rattle.turn_table.specs.Calls.{known, turn_history}
 use Rattle.site_cells.specs.Values.{log_of_cell}

@@ -1,4 +1,4 @@
-use Rattle.std.proofs.Common.{◌≡◌, Some, refl, subst}
+use Rattle.std.proofs.Common.{Some, refl, subst}
 use Rattle.turn_table.specs.Calls.{known}
 use Rattle.running_site.specs.Visits.{IsVisit}
 use Rattle.running_site.proofs.VisitLemmas.{gone-pass}

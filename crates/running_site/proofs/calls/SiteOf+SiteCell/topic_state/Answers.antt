@@ -1,4 +1,4 @@
-use Rattle.std.proofs.Common.{◌≡◌, [], sym, ap, ◌∙◌, subst}
+use Rattle.std.proofs.Common.{ap, ◌∙◌, subst}
 use Rattle.exchange_rules.specs.Calls.{Completed}
 use Rattle.exchange_rules.specs.Bindings.{topic_state_course}
 use Rattle.exchange_rules.specs.Following.{Writer}

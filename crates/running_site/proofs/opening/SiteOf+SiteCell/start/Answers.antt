@@ -1,11 +1,9 @@
-use Rattle.std.proofs.Common.{◌≡◌, ◌≢◌, ℕ, ◌+◌, ◌<◌, List, map, length, sym, ap, ◌∙◌, subst, arith}
+use Rattle.std.proofs.Common.{◌≡◌, ◌≢◌, ◌+◌, map, length, sym, ap, ◌∙◌, subst, arith}
 use Rattle.std.specs.Prelude.{AllPairs, Contains}
 use Rattle.topic_book.specs.Cells.{cells_in}
 use Rattle.exchange_rules.specs.Cells.{author_of}
-use Rattle.turn_table.specs.Calls.{known, table_of}
-use Rattle.turn_table.specs.Knowledge.{fresh}
+use Rattle.turn_table.specs.Calls.{table_of}
 use Rattle.site_cells.specs.Values.{about_in, log_of_cell}
-use Rattle.site_cells.specs.declared.site_cell.SiteCell.{SiteCell}
 use Rattle.running_site.specs.Passes.{layout_in, new_writer, IsPassOf, TablePass}
 use Rattle.running_site.proofs.CloseLemmas.{all-of}
 use Rattle.running_site.proofs.KnownLemmas.{each_of}

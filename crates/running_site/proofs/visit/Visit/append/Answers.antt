@@ -1,4 +1,4 @@
-use Rattle.std.proofs.Common.{◌≡◌, ℕ, Some, sym, refl, ap, ◌∙◌, subst}
+use Rattle.std.proofs.Common.{sym, ◌∙◌, subst}
 use Rattle.turn_table.specs.Calls.{known}
 use Rattle.running_site.specs.Visits.{HasTurn, IsVisit}
 use Rattle.running_site.proofs.AppendLemmas.{append-cause, append-fits}

@@ -1,5 +1,4 @@
-use Rattle.std.proofs.Common.{◌≡◌, ◌↔◌, true, map, sym, refl, ap, ◌∙◌, subst}
-use Rattle.std.specs.Prelude.{Result, Ok, Err}
+use Rattle.std.proofs.Common.{◌≡◌, map, sym, subst}
 use Rattle.exchange_rules.specs.Cells.{history_in, write}
 use Rattle.exchange_rules.specs.Primitives.{made}
 use Rattle.exchange_rules.specs.Steps.{kinds_of}

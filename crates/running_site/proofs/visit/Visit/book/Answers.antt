@@ -1,4 +1,4 @@
-use Rattle.std.proofs.Common.{◌≡◌, Some, true, sym, refl, ap, ◌∙◌, subst}
+use Rattle.std.proofs.Common.{sym, refl, ap, ◌∙◌, subst}
 use Rattle.topic_book.specs.Cells.{cells_in}
 use Rattle.turn_table.specs.Calls.{known}
 use Rattle.site_cells.specs.Values.{about_of}

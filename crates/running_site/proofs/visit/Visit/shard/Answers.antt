@@ -1,4 +1,4 @@
-use Rattle.std.proofs.Common.{◌≡◌, Some, false, sym, refl, ap, ◌∙◌, subst}
+use Rattle.std.proofs.Common.{sym, ap, ◌∙◌, subst}
 use Rattle.turn_table.specs.Calls.{known}
 use Rattle.site_cells.specs.Values.{about_of}
 use Rattle.site_cells.specs.declared.cell_value.CellValue.{CellValue}

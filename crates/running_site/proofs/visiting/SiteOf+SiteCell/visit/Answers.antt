@@ -1,4 +1,4 @@
-use Rattle.std.proofs.Common.{◌≡◌, Some, sym, ap, ◌∙◌, subst}
+use Rattle.std.proofs.Common.{sym, ap, ◌∙◌}
 use Rattle.running_site.specs.Passes.{sight_where, writer_where}
 use Rattle.running_site.proofs.VisitLemmas.{came-visit}
 use Rattle.running_site.proofs.visiting.SiteOf+SiteCell.visit.Goals as goal

@@ -1,4 +1,4 @@
-use Rattle.std.proofs.Common.{◌≡◌, ℕ, ◌+◌, ◌-◌, ◌∷◌, [], sym, refl, ap, ◌∙◌, subst, arith}
+use Rattle.std.proofs.Common.{◌≡◌, ◌-◌, ◌∷◌, [], sym, subst, arith}
 use Rattle.topic_book.specs.Cells.{cells_in}
 use Rattle.topic_book.specs.States.{IsCauseOf, IsOpenTo}
 use Rattle.exchange_rules.specs.Cells.{book_in, payload_of}

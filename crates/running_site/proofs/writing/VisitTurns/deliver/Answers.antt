@@ -1,5 +1,4 @@
-use Rattle.std.proofs.Common.{◌≡◌, ℕ, ◌<◌, length, refl, sym, ap, ◌∙◌, arith}
-use Rattle.exchange_rules.specs.Cells.{history_in}
+use Rattle.std.proofs.Common.{◌∙◌, arith}
 use Rattle.exchange_rules.specs.Following.{Writer}
 use Rattle.stream_site.proofs.TestLemmas.{err_again, not_true, ok_is_no_err}
 use Rattle.turn_table.specs.Calls.{known}

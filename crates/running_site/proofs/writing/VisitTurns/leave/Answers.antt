@@ -1,6 +1,5 @@
-use Rattle.std.proofs.Common.{◌≡◌, Some, sym, refl, ap, ◌∙◌, subst}
+use Rattle.std.proofs.Common.{sym, refl, ◌∙◌, subst}
 use Rattle.turn_table.specs.Calls.{known}
-use Rattle.running_site.specs.Passes.{writer_in}
 use Rattle.running_site.specs.Visits.{IsVisit}
 use Rattle.running_site.proofs.LeaveLemmas.{gave-later, gave-visit}
 use Rattle.running_site.proofs.writing.VisitTurns.leave.Goals as goal

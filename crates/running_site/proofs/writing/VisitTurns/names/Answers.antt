@@ -1,6 +1,7 @@
-use Rattle.std.proofs.Common.{◌≡◌, ℕ, ◌+◌, ◌<◌, ◌^◌, arith}
+use Rattle.std.proofs.Common.{◌+◌, arith}
 use Rattle.topic_book.specs.Cells.{cells_in}
 use Rattle.turn_table.specs.Calls.{known}
+use Rattle.running_site.proofs.FitLemmas.{fit-of}
 use Rattle.running_site.proofs.KnownLemmas.{wide-at}
 use Rattle.running_site.proofs.writing.VisitTurns.names.Goals as goal
 
@@ -18,3 +19,8 @@ returns-clause-few g c =
     let v = c.args.self.now in
     let few = v.site.now.table.few in
     let sized = v.site.now.sized in omega (arith, few, sized)
+
+pub returns-clause-fit : goal.returns-clause-fit
+returns-clause-fit g c =
+    let v = c.args.self.now in
+    λ cell lt. fit-of v.site.now.names (known v.pass).seen cell v.visit.knowing.fit lt
