@@ -1,3 +1,6 @@
+pub mod BatchLemmas
+pub mod EarlyLemmas
 pub mod FoundLemmas
+pub mod KeptLemmas
 pub mod PartLemmas
 pub mod SearchLemmas

@@ -1,3 +1,6 @@
+pub mod Batches
 pub mod Cuts
+pub mod Founds
 pub mod Parts
 pub mod Reads
+pub mod Wants

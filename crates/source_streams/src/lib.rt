@@ -1,12 +1,15 @@
-//! The sources of streams: searches and single tuples.
+//! The sources of streams: searches, single tuples and the documents of topics.
 #![tactic(auto)]
 
+mod batch;
 mod part;
 mod search;
 #[cfg(test)]
 mod tests;
 mod tuple_once;
+mod wanted;
 
+pub use batch::{TopicBatch, TopicItem, topic_batch};
 pub use part::Part;
 pub use search::SearchCursor;
 pub use tuple_once::TupleOnce;

@@ -1,21 +1,22 @@
 // The source of a search.
-ghost use Rattle.std.specs.Prelude.{◌≡◌, ◌<◌, ◌==◌, ◌%◌, ◌++◌, IsOk, IsSome, IfOk, OnOk, Some, map, filter, option_map};
-ghost use Rattle.query_syntax.specs.Matching.{matches};
+ghost use Rattle.std.specs.Prelude.{◌≡◌, ◌<◌, ◌++◌, IsOk, IsSome, IfOk, OnOk, map, filter, option_map};
 ghost use Rattle.expr_types.specs.Parts.{search_parts};
 ghost use Rattle.expr_types.specs.Sources.{first_rows, then_by_id, cut_to};
 ghost use Rattle.source_streams.specs.Cuts.{documents_of};
-ghost use Rattle.source_streams.specs.Parts.{is_of_part, part_of, keys_of};
+ghost use Rattle.source_streams.specs.Parts.{part_of, keys_of};
 ghost use Rattle.source_streams.specs.Reads.{IsNext, searched};
+ghost use Rattle.source_streams.specs.Wants.{is_wanted, early_part, late_part};
 
 use crate::Part;
+use crate::part::keys_or_none;
+use crate::wanted::Wanted;
 use expr_types::Expr;
-use query_syntax::Query;
 use shard_versions::{Cut, CutPart, Snapshot};
 use sort_spec::{SortSpec, SortTerm, sort_lent};
 use std::alloc::Global;
 use std::collections::VecDeque;
 use std::marker::Model;
-use tuple_values::{FieldList, Memory, Text, TryCopy, Tuple, fnv1a, key_text};
+use tuple_values::{FieldList, Memory, Text, TryCopy, Tuple};
 
 /// The tuples of a search that are still to come. A contract sees the list of them.
 #[derive(Debug, Drop)]
@@ -38,7 +39,8 @@ impl Model for SearchCursor {
 impl SearchCursor {
     /// The part's tuples of a search over a cut, which holds each shard of its collection: the
     /// matching documents, sorted by the search's sort and then by id, the first `rows`, each cut
-    /// to `fl`. Takes some n log n comparisons of n matching documents, and copies what it gives.
+    /// to `fl`. Looks at each document once, takes some n log n comparisons of the n matching ones of
+    /// the part (of all parts where there are `rows`), and copies what it gives.
     pub fn make(alloc: Global, search: &Expr, cut: &Cut, part: Part) -> Result<SearchCursor, Memory>
         requires search { IsSome (search_parts search.now) }
         requires part { part.index < part.of }
@@ -55,11 +57,18 @@ impl SearchCursor {
         else {
             unreachable!();
         };
-        let found = matching(alloc, q, collection, cut.as_slice())?;
+        let none = FieldList::new(alloc);
+        let wanted = Wanted {
+            q,
+            fl,
+            keys: keys_or_none(partition_keys.as_ref(), &none),
+            part: early_part(part, *rows),
+        };
+        let found = matching(alloc, &wanted, collection, cut.as_slice())?;
         let by = by_id(alloc, sort)?;
         let found = sort_lent(found, &by)?;
         let first = first_of(found.as_slice(), *rows);
-        let rest = cut_rest(alloc, first, fl, part, partition_keys.as_ref())?;
+        let rest = cut_part(alloc, first, fl, wanted.keys, late_part(part, *rows))?;
         Ok(SearchCursor { rest })
     }
 
@@ -74,16 +83,17 @@ impl SearchCursor {
 
 fn add_matching<'a>(
     found: &mut Vec<&'a Tuple>,
-    q: &Query,
+    wanted: &Wanted,
     snapshot: &'a Snapshot,
 ) -> Result<(), Memory>
     ensures { OnOk result
         (map (λ d. d.now) found.new.items ≡ map (λ d. d.now) found.old.items
-        ++ filter (matches q.now.clauses) (map (λ d. d.1) snapshot.now.documents)) }
+        ++ filter (is_wanted wanted.now.q.now.clauses wanted.now.fl.now wanted.now.keys.now
+        wanted.now.part) (map (λ d. d.1) snapshot.now.documents)) }
 {
     for k in 0..snapshot.count() {
         let document = snapshot.document(k);
-        if q.matches(document) {
+        if wanted.takes(document) {
             found.push(document)?;
         }
     }
@@ -92,20 +102,45 @@ fn add_matching<'a>(
 
 fn matching<'a>(
     alloc: Global,
-    q: &Query,
+    wanted: &Wanted,
     collection: &Text,
     cut: &'a [CutPart],
 ) -> Result<Vec<&'a Tuple>, Memory>
     ensures { IfOk result (λ found. map (λ d. d.now) found.items
-        ≡ filter (matches q.now.clauses) (documents_of collection.now cut.now)) }
+        ≡ filter (is_wanted wanted.now.q.now.clauses wanted.now.fl.now wanted.now.keys.now
+        wanted.now.part) (documents_of collection.now cut.now)) }
 {
     let mut found = Vec::new(alloc);
     for part in cut {
         if part.collection.as_str() == collection.as_str() {
-            add_matching(&mut found, q, &part.snapshot)?;
+            add_matching(&mut found, wanted, &part.snapshot)?;
         }
     }
     Ok(found)
+}
+
+// The part that is taken of what matches, before the sort: all, where rows are counted first.
+fn early_part(part: Part, rows: Option<u64>) -> Part
+    requires { part.index < part.of }
+    ensures part { result ≡ early_part rows part }
+    ensures in_range { result.index < result.of }
+{
+    match rows {
+        None => part,
+        Some(_) => Part::whole(),
+    }
+}
+
+// The part that is taken of the first rows: all, where no rows are counted.
+fn late_part(part: Part, rows: Option<u64>) -> Part
+    requires { part.index < part.of }
+    ensures part { result ≡ late_part rows part }
+    ensures in_range { result.index < result.of }
+{
+    match rows {
+        None => Part::whole(),
+        Some(_) => part,
+    }
 }
 
 // A sort, and then by id.
@@ -130,55 +165,24 @@ fn first_of<'a, 'b>(found: &'b [&'a Tuple], rows: Option<u64>) -> &'b [&'a Tuple
     }
 }
 
-// Whether a tuple is of the part.
-fn is_of_part(alloc: Global, part: Part, keys: &FieldList, tuple: &Tuple) -> Result<bool, Memory>
-    requires { part.index < part.of }
-    ensures { IfOk result (λ is. is ≡ is_of_part part.index part.of keys.now tuple.now) }
-{
-    if part.of == 1 {
-        return Ok(true);
-    }
-    let key = key_text(alloc, tuple, keys)?;
-    Ok(fnv1a(key.as_slice()) % u32::from(part.of) == u32::from(part.index))
-}
-
-// The tuples of the part among the documents, each cut to the fields.
+// The documents whose cuts are of the part, each cut to the fields.
 fn cut_part(
     alloc: Global,
     found: &[&Tuple],
     fl: &FieldList,
-    part: Part,
     keys: &FieldList,
+    part: Part,
 ) -> Result<VecDeque<Tuple>, Memory>
     requires { part.index < part.of }
     ensures { IfOk result (λ rest. rest.items
         ≡ part_of part.index part.of keys.now (map (cut_to fl.now) (map (λ d. d.now) found.now))) }
 {
-    let mut rest = VecDeque::new(alloc);
+    let mut rest = VecDeque::with_capacity(alloc, found.len())?;
     for document in found {
-        let tuple = document.cut(alloc, fl)?;
-        if is_of_part(alloc, part, keys, &tuple)? {
+        if part.holds(keys, fl, document) {
+            let tuple = document.cut(alloc, fl)?;
             rest.push_back(tuple)?;
         }
     }
     Ok(rest)
-}
-
-// The same where no keys may be given.
-fn cut_rest(
-    alloc: Global,
-    found: &[&Tuple],
-    fl: &FieldList,
-    part: Part,
-    keys: Option<&FieldList>,
-) -> Result<VecDeque<Tuple>, Memory>
-    requires { part.index < part.of }
-    ensures { IfOk result (λ rest. rest.items
-        ≡ part_of part.index part.of (keys_of (option_map (λ k. k.now) keys.entry))
-        (map (cut_to fl.now) (map (λ d. d.now) found.now))) }
-{
-    match keys {
-        Some(keys) => cut_part(alloc, found, fl, part, keys),
-        None => cut_part(alloc, found, fl, part, &FieldList::new(alloc)),
-    }
 }
