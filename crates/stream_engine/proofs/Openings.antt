@@ -1,6 +1,6 @@
 -- The streams of an expression's inputs, one after another.
-use Rattle.std.proofs.Common.{◌≡◌, ℕ, suc, ◌+◌, ◌<◌, List, [], ◌∷◌, ◌++◌, length, get_or, drop, Bool}
-use Rattle.std.proofs.Common.{true, None, refl, ap, sym, ◌∙◌, subst, append_assoc, arith}
+use Rattle.std.proofs.Common.{◌≡◌, ℕ, suc, ◌+◌, ◌<◌, ◌&&◌, List, [], ◌∷◌, ◌++◌, length, get_or, drop, Bool}
+use Rattle.std.proofs.Common.{true, None, refl, ap, sym, ◌∙◌, subst, arith}
 use Rattle.std.specs.Prelude.{slice_index_or, Result, Ok, Err, IfOk}
 use Rattle.std.specs.List.{AllByRecursion}
 use Rattle.std.specs.Option.{option_or}
@@ -13,12 +13,10 @@ use Rattle.sort_spec.specs.declared.term.SortTerm.{SortTerm}
 use Rattle.expr_types.specs.ExprTree.{Operator, ExprTree, node, inputs_of, inputs_in, operator_in}
 use Rattle.expr_types.specs.ExprTree.{expr_list, first_or, second_or}
 use Rattle.expr_types.specs.Joins.{AreJoinable, left_names}
-use Rattle.expr_types.specs.Rules.{Collections, given, AreAsNeeded, rule_of}
-use Rattle.expr_types.specs.Lists.{list_of, lists_of}
+use Rattle.expr_types.specs.Rules.{Collections, AreAsNeeded, rule_of}
 use Rattle.expr_types.specs.Orders.{IsSortedOver, sort_over}
-use Rattle.expr_types.specs.Plain.{IsPlain, is_plain, are_plain, not_yet}
+use Rattle.expr_types.specs.Plain.{IsPlain, is_plain, are_plain}
 use Rattle.expr_types.specs.Planned.{AreWell, AreAllWell}
-use Rattle.expr_types.proofs.PlainLemmas.{answered_plain}
 use Rattle.expr_types.proofs.TreeLemmas.{node-parts}
 use Rattle.expr_check.specs.Orders.{AreInOrder, directions_of}
 use Rattle.expr_check.proofs.JoinLemmas.{joinable}
@@ -28,10 +26,13 @@ use Rattle.expr_check.specs.Faults.{join_fault}
 use Rattle.expr_check.specs.declared.order.Order.{Order}
 use Rattle.expr_check.proofs.FaultLemmas.{none_first, none_second}
 use Rattle.expr_check.proofs.LawLemmas.{hold_all, needs_hold}
-use Rattle.expr_check.proofs.NeedLemmas.{and_second}
-use Rattle.expr_check.proofs.WalkLemmas.{fault_where-parts}
+use Rattle.expr_check.proofs.NeedLemmas.{and_first, and_second}
+use Rattle.expr_check.proofs.WalkLemmas.{inputs_more}
 use Rattle.merge_join.specs.Keys.{left_order, right_order, terms_of}
 use Rattle.merge_join.proofs.KeyLemmas.{left_order-sort_over, right_order-sort_over}
+use Rattle.part_laws.specs.Parted.{given_in_part, list_in_part, lists_in_part}
+use Rattle.part_laws.specs.Parted.{MayBeParted, MayAllBeParted}
+use Rattle.part_laws.proofs.KeyedLemmas.{parted_below, below_in_order}
 use Rattle.stream_engine.specs.Flows.{Flow, rests_of}
 
 -- an expression without a fault has none of its own, and none in its inputs
@@ -51,16 +52,23 @@ fault_parts t none =
       none_second (own_at op inputs) (own_faults inputs) both,
     )
 
--- the inputs of what only reads only read
-plain_inputs : (t : ExprTree) → IsPlain t → are_plain (inputs_of (inputs_in t)) ≡ true
+-- what only reads is an operator that only reads over inputs that do
+pub plain_here : (t : ExprTree) → IsPlain t → (rule_of (operator_in t)).is_plain ≡ true
+plain_here t plain =
+    and_first (rule_of (operator_in t)).is_plain (are_plain (inputs_of (inputs_in t)))
+    (ap is_plain (node-parts t) ∙ plain)
+
+pub plain_inputs : (t : ExprTree) → IsPlain t → are_plain (inputs_of (inputs_in t)) ≡ true
 plain_inputs t plain =
     and_second (rule_of (operator_in t)).is_plain (are_plain (inputs_of (inputs_in t)))
     (ap is_plain (node-parts t) ∙ plain)
 
--- the list of an expression is that of its operator over the lists of its inputs
-pub list_of-parts : (docs : Collections) (t : ExprTree)
-    → list_of docs t ≡ given docs (operator_in t) (lists_of docs (inputs_of (inputs_in t)))
-list_of-parts docs t = ap (list_of docs) (sym (node-parts t))
+-- the list of an expression in a part is that of its operator over the lists of its inputs there
+pub list_in_part-parts : (docs : Collections) (index parts : ℕ) (t : ExprTree)
+    → list_in_part docs index parts t
+    ≡ given_in_part docs index parts (operator_in t)
+    (lists_in_part docs index parts (inputs_of (inputs_in t)))
+list_in_part-parts docs index parts t = ap (list_in_part docs index parts) (sym (node-parts t))
 
 -- what is known of an operator over inputs of these orders, with these lists
 pub record IsReadyOver (op : Operator) (orders : List Order) (lists : List (List Doc)) : Type 0 where
@@ -68,38 +76,48 @@ pub record IsReadyOver (op : Operator) (orders : List Order) (lists : List (List
   pub faultless : need_at op orders ≡ None
   pub in_order : AreInOrder orders lists
 
--- it holds of the operator of an expression without a fault
-pub ready_over : (docs : Collections) (t : ExprTree) → AreWell t → own_fault t ≡ None
-    → not_yet t ≡ None
+-- it holds of the operator of an expression without a fault, in each part
+pub ready_over : (docs : Collections) (index parts : ℕ) (t : ExprTree) → AreWell t
+    → own_fault t ≡ None → IsPlain t → index < parts → MayBeParted parts t
     → IsReadyOver (operator_in t) (orders_of (inputs_of (inputs_in t)))
-    (lists_of docs (inputs_of (inputs_in t)))
-ready_over docs t well none answered =
+    (lists_in_part docs index parts (inputs_of (inputs_in t)))
+ready_over docs index parts t well none plain within parted =
     let op = operator_in t in
     let inputs = inputs_of (inputs_in t) in
-    let parts = subst AreWell (sym (node-parts t)) well in
+    let whole = subst AreWell (sym (node-parts t)) well in
     let here = fault_parts t none in
-    let plain = plain_inputs t (answered_plain t answered) in
-    let held = hold_all docs inputs plain parts.1.1 here.1 in
+    let held = hold_all docs inputs (plain_inputs t plain) whole.1.1 here.1 in
+    let order =
+    below_in_order docs index parts op inputs whole within
+    (subst (MayBeParted parts) (sym (node-parts t)) parted) held.1 in
     record {
       sorted =
-          needs_hold op (length (expr_list inputs)) (orders_of inputs) (lists_of docs inputs)
-          parts.0 here.0 held.1;
+          needs_hold op (length (expr_list inputs)) (orders_of inputs)
+          (lists_in_part docs index parts inputs) whole.0 here.0 order;
       faultless = here.0;
-      in_order = held.1;
+      in_order = order;
     }
 
 -- also of orders and lists that are found
-pub ready_found : (docs : Collections) (t : ExprTree) (orders : List Order)
-    (lists : List (List Doc)) → AreWell t → own_fault t ≡ None → not_yet t ≡ None
-    → orders ≡ orders_of (inputs_of (inputs_in t))
-    → lists ≡ lists_of docs (inputs_of (inputs_in t))
+pub ready_found : (docs : Collections) (index parts : ℕ) (t : ExprTree) (orders : List Order)
+    (lists : List (List Doc)) → AreWell t → own_fault t ≡ None → IsPlain t → index < parts
+    → MayBeParted parts t → orders ≡ orders_of (inputs_of (inputs_in t))
+    → lists ≡ lists_in_part docs index parts (inputs_of (inputs_in t))
     → IsReadyOver (operator_in t) orders lists
-ready_found docs t orders lists well none answered are gives =
+ready_found docs index parts t orders lists well none plain within parted are gives =
     subst (λ (l : List (List Doc)). IsReadyOver (operator_in t) orders l) (sym gives)
     (subst
     (λ (o : List Order).
-    IsReadyOver (operator_in t) o (lists_of docs (inputs_of (inputs_in t))))
-    (sym are) (ready_over docs t well none answered))
+    IsReadyOver (operator_in t) o (lists_in_part docs index parts (inputs_of (inputs_in t))))
+    (sym are) (ready_over docs index parts t well none plain within parted))
+
+-- the inputs of what may be parted may be
+pub parted_inputs : (parts : ℕ) (t : ExprTree) → AreWell t → MayBeParted parts t
+    → MayAllBeParted parts (inputs_of (inputs_in t))
+parted_inputs parts t well parted =
+    parted_below parts (operator_in t) (inputs_of (inputs_in t))
+    (subst AreWell (sym (node-parts t)) well)
+    (subst (MayBeParted parts) (sym (node-parts t)) parted)
 
 -- the inputs of an expression that a plan gives are such
 pub well_inputs : (t : ExprTree) → AreWell t → AreAllWell (inputs_of (inputs_in t))
@@ -111,7 +129,7 @@ pub faultless_inputs : (t : ExprTree) → own_fault t ≡ None
 faultless_inputs t none = (fault_parts t none).1
 
 -- the expressions from a place on are the one there and the rest
-from_place : (exprs : List ExprTree) (k : ℕ) (e : ExprTree) → k < length exprs
+pub from_place : (exprs : List ExprTree) (k : ℕ) (e : ExprTree) → k < length exprs
     → e ≡ get_or exprs k e → drop k exprs ≡ e ∷ drop (k + 1) exprs
 from_place exprs k e lt is =
     at_drop_more (λ rest. rest) exprs k e lt ∙ ap (λ x. x ∷ drop (k + 1) exprs) (sym is)
@@ -134,28 +152,42 @@ faultless_more exprs k e lt is none =
     sym (ap (λ l. own_faults (inputs_of l)) (from_place exprs k e lt is)) ∙ none in
     (none_first (own_fault e) rest both, none_second (own_fault e) rest both)
 
+-- where they only read, so do the one there and the rest
+pub plain_more : (exprs : List ExprTree) (k : ℕ) (e : ExprTree) → k < length exprs
+    → e ≡ get_or exprs k e → are_plain (inputs_of (drop k exprs)) ≡ true
+    → IsPlain e × (are_plain (inputs_of (drop (k + 1) exprs)) ≡ true)
+plain_more exprs k e lt is plain =
+    let rest = are_plain (inputs_of (drop (k + 1) exprs)) in
+    let both : (is_plain e && rest) ≡ true =
+    sym (ap (λ l. are_plain (inputs_of l)) (from_place exprs k e lt is)) ∙ plain in
+    (and_first (is_plain e) rest both, and_second (is_plain e) rest both)
+
+-- where they may be parted, so may the one there and the rest
+pub parted_more : (parts : ℕ) (exprs : List ExprTree) (k : ℕ) (e : ExprTree) → k < length exprs
+    → e ≡ get_or exprs k e → MayAllBeParted parts (inputs_of (drop k exprs))
+    → MayBeParted parts e × MayAllBeParted parts (inputs_of (drop (k + 1) exprs))
+parted_more parts exprs k e lt is parted =
+    subst (λ rest. MayAllBeParted parts (inputs_of rest)) (from_place exprs k e lt is) parted
+
 -- what the streams so far and one more give, and what the inputs to come give, is all
-pub rests_more : (docs : Collections) (exprs : List ExprTree) (k : ℕ) (e : ExprTree)
-    (flows : List Flow) (f : Flow) → k < length exprs → e ≡ get_or exprs k e
-    → f.0 ≡ list_of docs e
-    → rests_of flows ++ lists_of docs (inputs_of (drop k exprs))
-    ≡ lists_of docs (inputs_of exprs)
-    → rests_of (flows ++ f ∷ []) ++ lists_of docs (inputs_of (drop (k + 1) exprs))
-    ≡ lists_of docs (inputs_of exprs)
-rests_more docs exprs k e flows f lt is gives all =
-    let rest = lists_of docs (inputs_of (drop (k + 1) exprs)) in
-    ap (λ w. w ++ rest) (map-append (λ (x : Flow). x.0) flows (f ∷ []))
-    ∙ append_assoc (rests_of flows) (f.0 ∷ []) rest
-    ∙ ap (λ w. rests_of flows ++ w)
-    (ap (λ x. x ∷ rest) gives
-    ∙ sym (ap (λ w. lists_of docs (inputs_of w)) (from_place exprs k e lt is)))
-    ∙ all
+pub rests_more : (docs : Collections) (index parts : ℕ) (exprs : List ExprTree) (k : ℕ)
+    (e : ExprTree) (flows : List Flow) (f : Flow) → k < length exprs → e ≡ get_or exprs k e
+    → f.0 ≡ list_in_part docs index parts e
+    → rests_of flows ++ lists_in_part docs index parts (inputs_of (drop k exprs))
+    ≡ lists_in_part docs index parts (inputs_of exprs)
+    → rests_of (flows ++ f ∷ []) ++ lists_in_part docs index parts (inputs_of (drop (k + 1) exprs))
+    ≡ lists_in_part docs index parts (inputs_of exprs)
+rests_more docs index parts exprs k e flows f lt is gives all =
+    ap (λ w. w ++ lists_in_part docs index parts (inputs_of (drop (k + 1) exprs)))
+    (map-append (λ (x : Flow). x.0) flows (f ∷ []))
+    ∙ inputs_more (list_in_part docs index parts) (lists_in_part docs index parts) (λ e exprs. refl)
+    exprs k e (rests_of flows) f.0 lt is gives all
 
 -- there are as many lists as expressions
-lists_width : (docs : Collections) (exprs : List ExprTree)
-    → length (lists_of docs (inputs_of exprs)) ≡ length exprs
-lists_width docs [] = refl
-lists_width docs (e ∷ exprs) = ap (λ n. suc n) (lists_width docs exprs)
+lists_width : (docs : Collections) (index parts : ℕ) (exprs : List ExprTree)
+    → length (lists_in_part docs index parts (inputs_of exprs)) ≡ length exprs
+lists_width docs index parts [] = refl
+lists_width docs index parts (e ∷ exprs) = ap (λ n. suc n) (lists_width docs index parts exprs)
 
 -- and as many rests as streams
 rests_width : (flows : List Flow) → length (rests_of flows) ≡ length flows
@@ -163,10 +195,12 @@ rests_width [] = refl
 rests_width (f ∷ flows) = ap (λ n. suc n) (rests_width flows)
 
 -- streams that give the lists of expressions are as many
-pub streams_width : (docs : Collections) (exprs : List ExprTree) (flows : List Flow)
-    → rests_of flows ≡ lists_of docs (inputs_of exprs) → length flows ≡ length exprs
-streams_width docs exprs flows e =
-    sym (rests_width flows) ∙ ap (λ (l : List (List Doc)). length l) e ∙ lists_width docs exprs
+pub streams_width : (docs : Collections) (index parts : ℕ) (exprs : List ExprTree)
+    (flows : List Flow) → rests_of flows ≡ lists_in_part docs index parts (inputs_of exprs)
+    → length flows ≡ length exprs
+streams_width docs index parts exprs flows e =
+    sym (rests_width flows) ∙ ap (λ (l : List (List Doc)). length l) e
+    ∙ lists_width docs index parts exprs
 
 -- the first stream gives the first rest
 pub first_rest : (flows : List Flow) (f : Flow) → length flows ≡ 1

@@ -18,6 +18,7 @@ use Rattle.merge_join.specs.contracts.exist.ExistKernel as ExistKernel
 use Rattle.merge_join.specs.contracts.join.JoinKernel as JoinKernel
 use Rattle.hash_join.specs.contracts.join.HashJoinKernel as HashJoinKernel
 use Rattle.stream_engine.specs.contracts.any_kernel.AnyKernel as AnyKernel
+use Rattle.stream_engine.specs.contracts.fed.Fed as Fed
 use Rattle.stream_engine.specs.contracts.stream.Stream as Stream
 use Rattle.stream_engine.proofs.stream.Stream.TheLaws.TheKnot as streams
 
@@ -28,6 +29,10 @@ cursor_send = search (tuples.crosses, heap.crosses, sendable) depth 60 fits 2000
 -- and one tuple
 pub once_send : IsSend TupleOnce.the_row
 once_send = search (tuples.crosses, heap.crosses, sendable) depth 60 fits 20000
+
+-- and a list
+pub fed_send : IsSend Fed.the_row
+fed_send = search (tuples.crosses, heap.crosses, sendable) depth 60 fits 20000
 
 -- and each kernel
 pub having_send : IsSend HavingKernel.the_row
@@ -91,5 +96,5 @@ kernel_send =
 -- and so a stream
 pub stream_send : IsSend Stream.the_row
 stream_send =
-    search (cursor_send, once_send, kernel_send, streams.crosses, heap.crosses, sendable) depth 60
+    search (cursor_send, once_send, fed_send, kernel_send, streams.crosses, heap.crosses, sendable) depth 60
     fits 20000

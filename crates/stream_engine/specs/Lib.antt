@@ -2,3 +2,4 @@ pub mod Flows
 pub mod Kernels
 pub mod Views
 pub mod Falls
+pub mod Fed

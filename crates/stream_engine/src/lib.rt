@@ -2,9 +2,11 @@
 #![tactic(auto)]
 
 mod any_kernel;
+mod fed;
+mod naming;
 mod opening;
 mod over_inputs;
 mod stream;
 
-pub use opening::{Feeds, open_stream};
+pub use opening::{Feeds, merge_lists, open_stream};
 pub use stream::{Stream, drain};

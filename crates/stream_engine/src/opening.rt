@@ -1,38 +1,53 @@
 // Expressions, opened as streams.
-ghost use Rattle.std.specs.Prelude.{◌≡◌, IfOk, IsSome, None, [], List, length, false};
-ghost use Rattle.tuple_values.specs.Document.{Doc};
+ghost use Rattle.std.specs.Prelude.{ℕ, ◌≡◌, ◌<◌, ◌++◌, ◌∷◌, IfOk, OnOk, IsSome, is_some, None};
+ghost use Rattle.std.specs.Prelude.{Some, [], List, length, true, false};
+ghost use Rattle.std.specs.List.{AllByRecursion};
+ghost use Rattle.tuple_values.specs.Document.{ByteList, Doc};
+ghost use Rattle.sort_spec.specs.Sorting.{IsAscending};
+ghost use Rattle.sort_spec.specs.Terms.{less};
 ghost use Rattle.expr_types.specs.ExprTree.{inputs_in, inputs_of, operator_in, first_or};
 ghost use Rattle.expr_types.specs.ExprTree.{expr_tree};
-ghost use Rattle.expr_types.specs.Rules.{Collections, given, AreAsNeeded};
-ghost use Rattle.expr_types.specs.Lists.{list_of, lists_of};
-ghost use Rattle.expr_types.specs.Plain.{not_yet, not_yet_at, not_yet_in};
+ghost use Rattle.expr_types.specs.Rules.{Collections, AreAsNeeded, rule_of};
+ghost use Rattle.expr_types.specs.Lists.{list_of};
+ghost use Rattle.expr_types.specs.Orders.{merge_list};
+ghost use Rattle.expr_types.specs.Plain.{IsPlain, are_plain};
 ghost use Rattle.expr_types.specs.Planned.{AreWell, AreAllWell};
 ghost use Rattle.expr_types.specs.Parts.{search_parts, tuple_fields};
 ghost use Rattle.expr_check.specs.Orders.{AreInOrder};
-ghost use Rattle.expr_check.specs.Rules.{need_at};
+ghost use Rattle.expr_check.specs.Rules.{need_at, split_by};
 ghost use Rattle.expr_check.specs.Views.{tree_of};
-ghost use Rattle.expr_check.specs.Walk.{order_of, orders_of, fields_of, all_fields};
+ghost use Rattle.expr_check.specs.Walk.{order_of, orders_of, fields_of, all_fields, keys_of};
 ghost use Rattle.expr_check.specs.Walk.{own_fault, own_faults};
 ghost use Rattle.source_streams.specs.Cuts.{documents_of};
+ghost use Rattle.source_streams.specs.Parts.{part_of};
+ghost use Rattle.part_laws.specs.Parted.{given_in_part, list_in_part, lists_in_part};
+ghost use Rattle.part_laws.specs.Parted.{MayBeParted, MayAllBeParted};
+ghost use Rattle.stream_engine.specs.Fed.{fed_of, fed_in, BeginsWith};
 ghost use Rattle.stream_engine.specs.Flows.{rests_of};
 
 use crate::Stream;
+use crate::fed::Fed;
+use crate::naming::{Told, told_of};
 use crate::over_inputs::{
     exist, hash_join, having, join, merge, reduce, rollup, select, sort, top, unique,
 };
 use expr_check::{Checked, Order, fields_given, order_given};
 use expr_types::Expr;
 use shard_versions::Cut;
+use sort_spec::SortSpec;
 use source_streams::{Part, SearchCursor, TupleOnce};
 use std::alloc::Global;
+use std::collections::VecDeque;
 use tuple_values::{FieldList, Memory, Tuples};
 
-/// Lists of tuples that a stream is fed with: one for each outermost `parallel`, from the left to the
-/// right. None is opened yet.
+/// Lists of tuples with which a stream is fed: one for each outermost `parallel`, from the left to
+/// the right.
 pub type Feeds = Vec<Tuples>;
 
-/// The stream of a checked expression, whose functions all have an answer, over a cut, which holds
-/// each shard of its collections. Only the whole part can be opened yet.
+/// One part of the stream of a checked expression that only reads, over a cut, which holds each
+/// shard of its collections. For each outermost `parallel` the stream is fed with the list that its
+/// input gives. Where there are several parts the expression has partition keys, by which the part
+/// is taken.
 pub fn open_stream(
     alloc: Global,
     checked: &Checked,
@@ -40,16 +55,42 @@ pub fn open_stream(
     feeds: Feeds,
     part: Part,
 ) -> Result<Stream, Memory>
-    requires feeds { feeds.items ≡ [] }
-    requires answered { not_yet (tree_of checked.now) ≡ None }
-    requires whole { (part.index ≡ 0) × (part.of ≡ 1) }
-    ensures list { IfOk result (λ stream. stream.0
+    requires plain { IsPlain (tree_of checked.now) }
+    requires feeds { feeds.items ≡ fed_of (λ c. documents_of c cut.now) (tree_of checked.now) }
+    requires part { part.index < part.of }
+    requires parted { MayBeParted part.of (tree_of checked.now) }
+    ensures whole { part.of ≡ 1 → IfOk result (λ stream. stream.0
         ≡ list_of (λ c. documents_of c cut.now) (tree_of checked.now)) }
+    ensures part { (keys : List ByteList) → keys_of (tree_of checked.now) ≡ Some keys
+        → IfOk result (λ stream. stream.0 ≡ part_of part.index part.of keys
+        (list_of (λ c. documents_of c cut.now) (tree_of checked.now))) }
     ensures lives { IfOk result (λ stream. stream.2 ≡ false) }
 {
-    let _ = feeds;
-    let opened = open_expr(alloc, checked.expr(), cut, part)?;
+    let mut feeds = VecDeque::from(feeds);
+    let opened = open_expr(alloc, checked.expr(), cut, &mut feeds, part)?;
     Ok(opened.stream)
+}
+
+/// The merge of lists, each of which is in the order of a sort: all their tuples in that order,
+/// those of an earlier list before those of a later one that tie with them.
+pub fn merge_lists(alloc: Global, lists: Vec<Tuples>, by: &SortSpec) -> Result<Stream, Memory>
+    requires { AllByRecursion (IsAscending (less by.now)) lists.items }
+    ensures list { IfOk result (λ stream. stream.0 ≡ merge_list by.now lists.items) }
+    ensures lives { IfOk result (λ stream. stream.2 ≡ false) }
+{
+    let inputs = fed_streams(alloc, lists)?;
+    merge(alloc, inputs, by)
+}
+
+// A stream of each list.
+fn fed_streams(alloc: Global, lists: Vec<Tuples>) -> Result<Vec<Stream>, Memory>
+    ensures { IfOk result (λ streams. rests_of streams.items ≡ lists.items) }
+{
+    let mut streams = Vec::new(alloc);
+    for tuples in lists {
+        streams.push(Stream::fed(Fed::new(tuples)))?;
+    }
+    Ok(streams)
 }
 
 // The stream of an expression, the order in which it comes, and the fields that its tuples have.
@@ -68,25 +109,40 @@ struct OpenedInputs {
     fields: Vec<FieldList>,
 }
 
-// The stream of an expression that has no fault, with its order and its fields. Those of its inputs
-// are found once, on the way up.
+// A part of the stream of an expression that has no fault, with its order and its fields. Those of
+// its inputs are found once, on the way up; a parallel's stream is the first of the feeds.
 #[cycle(opening)]
-fn open_expr(alloc: Global, expr: &Expr, cut: &Cut, part: Part) -> Result<Opened, Memory>
+fn open_expr(
+    alloc: Global,
+    expr: &Expr,
+    cut: &Cut,
+    feeds: &mut VecDeque<Tuples>,
+    part: Part,
+) -> Result<Opened, Memory>
     requires planned { AreWell (expr_tree expr.now) }
     requires faultless { own_fault (expr_tree expr.now) ≡ None }
-    requires answered { not_yet (expr_tree expr.now) ≡ None }
-    requires whole { (part.index ≡ 0) × (part.of ≡ 1) }
-    ensures list { IfOk result (λ opened. opened.stream.0
-        ≡ list_of (λ c. documents_of c cut.now) (expr_tree expr.now)) }
+    requires plain { IsPlain (expr_tree expr.now) }
+    requires part { part.index < part.of }
+    requires parted { MayBeParted part.of (expr_tree expr.now) }
+    requires fed { BeginsWith (fed_of (λ c. documents_of c cut.now) (expr_tree expr.now))
+        feeds.old.items }
+    ensures list { IfOk result (λ opened. opened.stream.0 ≡ list_in_part
+        (λ c. documents_of c cut.now) part.index part.of (expr_tree expr.now)) }
     ensures lives { IfOk result (λ opened. opened.stream.2 ≡ false) }
     ensures order { IfOk result (λ opened. opened.order ≡ order_of (expr_tree expr.now)) }
     ensures fields { IfOk result (λ opened. opened.fields ≡ fields_of (expr_tree expr.now)) }
+    ensures fed { OnOk result (feeds.old.items
+        ≡ fed_of (λ c. documents_of c cut.now) (expr_tree expr.now) ++ feeds.new.items) }
 {
+    if is_split(expr) {
+        let opened = open_parallel(alloc, expr, feeds)?;
+        return Ok(opened);
+    }
     let OpenedInputs {
         streams,
         orders,
         fields,
-    } = open_inputs(alloc, expr, cut, part)?;
+    } = open_inputs(alloc, expr, cut, feeds, part)?;
     let stream = open_over(alloc, expr, streams, orders.as_slice(), cut, part)?;
     let order = order_given(alloc, expr, orders, fields.as_slice())?;
     let fields = fields_given(alloc, expr, fields)?;
@@ -97,25 +153,87 @@ fn open_expr(alloc: Global, expr: &Expr, cut: &Cut, part: Part) -> Result<Opened
     })
 }
 
-// The streams of an expression's inputs, in their order, with their orders and fields.
+// Whether an expression is a parallel.
+fn is_split(expr: &Expr) -> bool
+    ensures { result ≡ is_some (split_by (operator_in (expr_tree expr.now))) }
+{
+    match expr {
+        Expr::Parallel { .. } => true,
+        Expr::Search { .. }
+        | Expr::Tuple { .. }
+        | Expr::Select { .. }
+        | Expr::Having { .. }
+        | Expr::Sort { .. }
+        | Expr::Top { .. }
+        | Expr::Unique { .. }
+        | Expr::Merge { .. }
+        | Expr::Reduce { .. }
+        | Expr::Rollup { .. }
+        | Expr::InnerJoin { .. }
+        | Expr::LeftOuterJoin { .. }
+        | Expr::Intersect { .. }
+        | Expr::Complement { .. }
+        | Expr::HashJoin { .. }
+        | Expr::OuterHashJoin { .. }
+        | Expr::Topic { .. }
+        | Expr::Update { .. }
+        | Expr::Commit { .. }
+        | Expr::Daemon { .. } => false,
+    }
+}
+
+// The stream of a parallel, which is the first of the feeds.
+fn open_parallel(alloc: Global, expr: &Expr, feeds: &mut VecDeque<Tuples>) -> Result<Opened, Memory>
+    requires { 0 < length feeds.old.items }
+    ensures list { IfOk result (λ opened. feeds.old.items
+        ≡ opened.stream.0 ∷ feeds.new.items) }
+    ensures lives { IfOk result (λ opened. opened.stream.2 ≡ false) }
+    ensures order { IfOk result (λ opened. opened.order ≡ order_of (expr_tree expr.now)) }
+    ensures fields { IfOk result (λ opened. opened.fields ≡ fields_of (expr_tree expr.now)) }
+{
+    let Some(tuples) = feeds.pop_front() else {
+        unreachable!();
+    };
+    let stream = Stream::fed(Fed::new(tuples));
+    let Told { order, fields } = told_of(alloc, expr)?;
+    Ok(Opened {
+        stream,
+        order,
+        fields,
+    })
+}
+
+// The streams of an expression's inputs in a part, in their order, with their orders and fields.
 #[cycle(opening)]
-fn open_inputs(alloc: Global, expr: &Expr, cut: &Cut, part: Part) -> Result<OpenedInputs, Memory>
+fn open_inputs(
+    alloc: Global,
+    expr: &Expr,
+    cut: &Cut,
+    feeds: &mut VecDeque<Tuples>,
+    part: Part,
+) -> Result<OpenedInputs, Memory>
     requires planned { AreAllWell (inputs_of (inputs_in (expr_tree expr.now))) }
     requires faultless { own_faults (inputs_of (inputs_in (expr_tree expr.now))) ≡ None }
-    requires answered { not_yet_in (inputs_of (inputs_in (expr_tree expr.now))) ≡ None }
-    requires whole { (part.index ≡ 0) × (part.of ≡ 1) }
-    ensures lists { IfOk result (λ opened. rests_of opened.streams.items
-        ≡ lists_of (λ c. documents_of c cut.now) (inputs_of (inputs_in (expr_tree expr.now)))) }
+    requires plain { are_plain (inputs_of (inputs_in (expr_tree expr.now))) ≡ true }
+    requires part { part.index < part.of }
+    requires parted { MayAllBeParted part.of (inputs_of (inputs_in (expr_tree expr.now))) }
+    requires fed { BeginsWith (fed_in (λ c. documents_of c cut.now)
+        (inputs_of (inputs_in (expr_tree expr.now)))) feeds.old.items }
+    ensures lists { IfOk result (λ opened. rests_of opened.streams.items ≡ lists_in_part
+        (λ c. documents_of c cut.now) part.index part.of
+        (inputs_of (inputs_in (expr_tree expr.now)))) }
     ensures orders { IfOk result (λ opened. opened.orders.items
         ≡ orders_of (inputs_of (inputs_in (expr_tree expr.now)))) }
     ensures fields { IfOk result (λ opened. opened.fields.items
         ≡ all_fields (inputs_of (inputs_in (expr_tree expr.now)))) }
+    ensures fed { OnOk result (feeds.old.items ≡ fed_in (λ c. documents_of c cut.now)
+        (inputs_of (inputs_in (expr_tree expr.now))) ++ feeds.new.items) }
 {
     let mut streams = Vec::new(alloc);
     let mut orders = Vec::new(alloc);
     let mut fields = Vec::new(alloc);
     for k in 0..expr.input_count() {
-        let opened = open_expr(alloc, expr.input(k), cut, part)?;
+        let opened = open_expr(alloc, expr.input(k), cut, feeds, part)?;
         streams.push(opened.stream)?;
         orders.push(opened.order)?;
         fields.push(opened.fields)?;
@@ -138,12 +256,13 @@ fn open_over(
 ) -> Result<Stream, Memory>
     requires sorted { AreAsNeeded (operator_in (expr_tree expr.now)) (rests_of inputs.items) }
     requires faultless { need_at (operator_in (expr_tree expr.now)) orders.now ≡ None }
-    requires answered { not_yet_at (operator_in (expr_tree expr.now)) ≡ None }
+    requires plain { (rule_of (operator_in (expr_tree expr.now))).is_plain ≡ true }
+    requires unsplit { is_some (split_by (operator_in (expr_tree expr.now))) ≡ false }
     requires in_order { AreInOrder orders.now (rests_of inputs.items) }
     requires width { length inputs.items ≡ length (inputs_in (expr_tree expr.now)) }
-    requires whole { (part.index ≡ 0) × (part.of ≡ 1) }
-    ensures list { IfOk result (λ stream. stream.0 ≡ given (λ c. documents_of c cut.now)
-        (operator_in (expr_tree expr.now)) (rests_of inputs.items)) }
+    requires part { part.index < part.of }
+    ensures list { IfOk result (λ stream. stream.0 ≡ given_in_part (λ c. documents_of c cut.now)
+        part.index part.of (operator_in (expr_tree expr.now)) (rests_of inputs.items)) }
     ensures lives { IfOk result (λ stream. stream.2 ≡ false) }
 {
     match expr {
@@ -182,9 +301,10 @@ fn only(inputs: Vec<Stream>) -> Stream
 
 fn open_search(alloc: Global, search: &Expr, cut: &Cut, part: Part) -> Result<Stream, Memory>
     requires search { IsSome (search_parts search.now) }
-    requires whole { (part.index ≡ 0) × (part.of ≡ 1) }
+    requires part { part.index < part.of }
     ensures list { IfOk result (λ stream. (lists : List (List Doc)) → stream.0
-        ≡ given (λ c. documents_of c cut.now) (operator_in (expr_tree search.now)) lists) }
+        ≡ given_in_part (λ c. documents_of c cut.now) part.index part.of
+        (operator_in (expr_tree search.now)) lists) }
     ensures lives { IfOk result (λ stream. stream.2 ≡ false) }
 {
     let cursor = SearchCursor::make(alloc, search, cut, part)?;
@@ -193,8 +313,9 @@ fn open_search(alloc: Global, search: &Expr, cut: &Cut, part: Part) -> Result<St
 
 fn open_tuple(alloc: Global, tuple: &Expr) -> Result<Stream, Memory>
     requires { IsSome (tuple_fields tuple.now) }
-    ensures list { IfOk result (λ stream. (docs : Collections) (lists : List (List Doc))
-        → stream.0 ≡ given docs (operator_in (expr_tree tuple.now)) lists) }
+    ensures list { IfOk result (λ stream. (docs : Collections) (index parts : ℕ)
+        (lists : List (List Doc)) → stream.0
+        ≡ given_in_part docs index parts (operator_in (expr_tree tuple.now)) lists) }
     ensures lives { IfOk result (λ stream. stream.2 ≡ false) }
 {
     let once = TupleOnce::make(alloc, tuple)?;

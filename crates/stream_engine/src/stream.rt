@@ -7,6 +7,7 @@ ghost use Rattle.stream_engine.specs.Views.{list_in, depth_in, IsSound, deepest}
 ghost use Rattle.stream_engine.specs.Kernels.{any_out, any_ready, any_ended, any_waits};
 
 use crate::any_kernel::AnyKernel;
+use crate::fed::Fed;
 use kernel_laws::{Ask, Kernel};
 use source_streams::{SearchCursor, TupleOnce};
 use std::alloc::Global;
@@ -27,6 +28,7 @@ pub struct Stream {
 enum Node {
     Search(SearchCursor),
     Once(TupleOnce),
+    Fed(Fed),
     Kernel {
         kernel: AnyKernel,
         inputs: Vec<Stream>,
@@ -78,6 +80,17 @@ impl Stream {
         }
     }
 
+    /// The stream of a list.
+    pub(crate) fn fed(fed: Fed) -> Stream
+        ensures list { result.0 ≡ fed }
+        ensures lives { result.2 ≡ false }
+    {
+        Stream {
+            node: Node::Fed(fed),
+            failed: false,
+        }
+    }
+
     /// The stream of what a kernel makes of its inputs.
     pub(crate) fn over(kernel: AnyKernel, inputs: Vec<Stream>) -> Stream
         requires ready { any_ready kernel (rests_of inputs.items) }
@@ -123,6 +136,7 @@ fn step(node: &mut Node) -> Result<Option<Tuple>, Memory>
     match node {
         Node::Search(cursor) => cursor.read(),
         Node::Once(once) => once.read(),
+        Node::Fed(fed) => Ok(fed.read()),
         Node::Kernel { kernel, inputs } => pull(kernel, inputs),
     }
 }

@@ -3,12 +3,13 @@ use Rattle.expr_types.specs.ExprTree.{ExprTree, node, merge, reduce, rollup, inp
 use Rattle.expr_types.specs.ExprTree.{operator_in, inner_join, left_outer_join, intersect}
 use Rattle.expr_types.specs.ExprTree.{complement, hash_join, outer_hash_join}
 use Rattle.expr_types.specs.ExprTree.{expr_tree, expr_step}
-use Rattle.expr_types.specs.Rules.{Collections, given, AreAsNeeded}
+use Rattle.expr_types.specs.Rules.{Collections, AreAsNeeded}
 use Rattle.expr_types.specs.Orders.{IsSortedOver}
 use Rattle.expr_types.specs.declared.expr.Expr.TheVariants as expr
 use Rattle.expr_types.specs.declared.expr.Expr.TheFolds.{fold-roll-Expr}
 use Rattle.expr_types.specs.declared.expr.Expr.TheOpen.{Expr-F}
 use Rattle.source_streams.specs.Cuts.{documents_of}
+use Rattle.part_laws.specs.Parted.{given_in_part}
 use Rattle.stream_engine.specs.Flows.{Flow, rests_of}
 use Rattle.stream_engine.proofs.Openings.{first_sorted, at_lists, two_joinable}
 use Rattle.stream_engine.proofs.opening.open_over.Goals as goal
@@ -141,5 +142,7 @@ pub returns-in-Search-clause-list : goal.returns-in-Search-clause-list
 returns-in-Search-clause-list c =
     let docs : Collections = λ n. documents_of n c.args.cut.now in
     let op = operator_in (expr_tree c.args.expr.now) in
-    at_lists c.open_search.result (λ (stream : Flow) lists. stream.0 ≡ given docs op lists)
+    let part = c.args.part in
+    at_lists c.open_search.result
+    (λ (stream : Flow) lists. stream.0 ≡ given_in_part docs part.index part.of op lists)
     (rests_of c.args.inputs.items) c.open_search.ensures.list
