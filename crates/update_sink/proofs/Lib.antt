@@ -1,0 +1,15 @@
+pub mod BatchLemmas
+pub mod CommitLemmas
+pub mod PutLemmas
+pub mod StorableLemmas
+pub mod UpdateLemmas
+pub mod QuietLemmas
+pub mod PartLemmas
+pub mod BeginLemmas
+pub mod ReadLemmas
+pub mod ShapeLemmas
+pub mod ItemLemmas
+pub mod DeliverLemmas
+pub mod StoreLemmas
+pub mod SendsLemmas
+pub mod RunLemmas

@@ -1,0 +1,23 @@
+use Rattle.std.proofs.Common.{◌≡◌, ◌≢◌, sym, ap, ◌∙◌, subst}
+use Rattle.std.specs.Prelude.{IsSome, None}
+use Rattle.expr_types.specs.ExprTree.{ExprTree, an_expr, expr_step, expr_tree, no_exprs, node, update}
+use Rattle.expr_types.specs.Planned.{IsPlanned}
+use Rattle.expr_types.specs.declared.expr.Expr.TheVariants as expr
+use Rattle.expr_types.specs.declared.expr.Expr.TheFolds.{fold-roll-Expr}
+use Rattle.expr_types.specs.declared.expr.Expr.TheOpen.{Expr-F}
+use Rattle.expr_check.specs.Walk.{own_fault}
+use Rattle.update_sink.specs.Topics.{Sink, sink_in_tree, sink_of, topic_in_tree, topic_of}
+use Rattle.update_sink.proofs.RunLemmas.{sink-is, sink-some}
+use Rattle.update_sink.proofs.running.dest_of.Goals as goal
+
+pub returns : goal.returns
+returns c =
+    let t = c.in-Update in
+    let e = expr_tree t.input.value in
+    let tree : expr_tree c.args.update.now ≡ node (update t.dest t.batch_size) (an_expr e no_exprs) =
+    ap expr_tree t.is
+    ∙ (ap expr_tree (sym (expr.rolls-Update t.input t.dest t.batch_size))
+    ∙ fold-roll-Expr ExprTree expr_step (Expr-F.Update t.input t.dest t.batch_size)) in
+    let some = sink-some t.dest t.batch_size e
+    (subst (λ x. IsSome (sink_in_tree x)) tree c.requires) in
+    ap (λ (s : Sink). s.dest) (sym (ap sink_of tree ∙ sink-is t.dest t.batch_size e some))

@@ -1,0 +1,7 @@
+pub mod Progresses
+pub mod Steps
+pub mod Topics
+pub mod Runs
+pub mod Asks
+pub mod Given
+pub mod Sends
