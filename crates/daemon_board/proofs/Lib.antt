@@ -1,0 +1,4 @@
+mod CallLemmas
+mod ClaimLemmas
+mod LoopLemmas
+mod PlaceLemmas
