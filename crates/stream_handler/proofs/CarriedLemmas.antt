@@ -8,59 +8,34 @@ use Rattle.json_text.specs.declared.fault.JsonFault.{JsonFault}
 use Rattle.json_text.specs.declared.fault.JsonFault.TheVariants as bad
 use Rattle.json_text.specs.declared.update.Update as body
 use Rattle.exchange_rules.specs.Courses.{Course, ends, and_then}
-use Rattle.exchange_rules.specs.Following.{Writer, Reaches, Answers, Begins}
-use Rattle.exchange_rules.specs.Calls.{Answered, Stopped}
+use Rattle.exchange_rules.specs.Following.{Writer, Answers}
+use Rattle.exchange_rules.specs.Calls.{Answered, Carried}
 use Rattle.exchange_rules.specs.Rows.{Layout}
 use Rattle.exchange_rules.specs.declared.fault.SiteFault.{SiteFault}
 use Rattle.exchange_rules.specs.declared.fault.SiteFault.TheVariants.{ShardFull, TopicBound, BookFull, OutOfMemory}
-use Rattle.exchange_rules.proofs.ReachLemmas.{reaches_none, reaches_then}
 use Rattle.expr_types.specs.ExprTree.{ExprTree}
 use Rattle.stream_handler.specs.Outcomes.{exception}
 use Rattle.topic_book.specs.Fitness.{shards_of}
 use Rattle.form_request.specs.declared.request.Request.{Request}
 use Rattle.stream_handler.specs.Refusals.{refusal}
-use Rattle.stream_handler.specs.Requests.{Carried, IsBadBody, IsRefusal, full_shard, full_text, indexed, plain_course, request_course, stream_course, update_course}
+use Rattle.root_runs.specs.Texts.{full_text}
+use Rattle.root_runs.proofs.CarriedLemmas.{first_answered, first_done, first_stopped, nothing_asked, nothing_done}
+use Rattle.stream_handler.specs.Requests.{IsBadBody, IsRefusal, expression_course, full_shard, indexed, plain_course, request_course, stream_course, update_course}
 use Rattle.stream_handler.specs.declared.outcome.Outcome.{Outcome}
 use Rattle.stream_handler.specs.declared.outcome.Outcome.TheVariants.{Indexed, Refused}
 use Rattle.stream_handler.specs.declared.update.FullShard.{FullShard}
 
--- a writer that did nothing followed a beginning of any course
-pub nothing_done : {A : Type 0} (w : Writer) (p : Course A) → Begins w w p
-nothing_done w p = (p, reaches_none w p)
-
--- and the whole of one that only ends
-pub nothing_asked : {A : Type 0} (w : Writer) (a : A) → Answers w w (ends a) a
-nothing_asked w a = reaches_none w (ends a)
-
--- a first part that stopped is a beginning
-pub first_stopped : {A B : Type 0} (old new : Writer) (p : Course A) (next : A → Course B)
-    (fault : SiteFault) → Stopped old new p fault → Begins old new (and_then p next)
-first_stopped old new p next (ShardFull collection shard stand) s = absurd s
-first_stopped old new p next (TopicBound kept) s = absurd s
-first_stopped old new p next (BookFull topics) s = absurd s
-first_stopped old new p next (OutOfMemory stand) s =
-    (and_then s.rest next, reaches_then old new p s.rest next s.stood.reached)
-
--- so is a first part that led to what follows it
-pub first_done : {A B : Type 0} (old new : Writer) (p : Course A) (next : A → Course B) (a : A)
-    → Answers old new p a → Begins old new (and_then p next)
-first_done old new p next a s = (next a, reaches_then old new p (ends a) next s)
-
--- and it is all where the rest only ends
-pub first_answered : {A B : Type 0} (old new : Writer) (p : Course A) (next : A → Course B)
-    (a : A) (b : B) → next a ≡ ends b → Answers old new p a → Answers old new (and_then p next) b
-first_answered old new p next a b e s =
-    subst (λ q. Reaches old new (and_then p next) q) e (reaches_then old new p (ends a) next s)
-
--- want of memory may come wherever a beginning was followed
-pub begun : {A : Type 0} (old new : Writer) (p : Course A) (r : Result A Memory)
-    (fault : Memory) → r ≡ Err fault → Begins old new p → Carried old new p r
-begun old new p r fault e b = subst (Carried old new p) (sym e) b
-
 -- a text that says no expression is answered with its fault
 pub told_done : (w : Writer) (l : Layout) (read : Result ExprTree ByteList) (text : ByteList)
-    → read ≡ Err text → Answers w w (plain_course l read) (exception text)
+    → read ≡ Err text → Answers w w (expression_course l read) (exception text)
 told_done w l read text e =
+    subst (λ r. Answers w w (expression_course l r) (exception text)) (sym e)
+    (nothing_asked w (exception text))
+
+-- so is one that says none that only reads
+pub plain_told : (w : Writer) (l : Layout) (read : Result ExprTree ByteList) (text : ByteList)
+    → read ≡ Err text → Answers w w (plain_course l read) (exception text)
+plain_told w l read text e =
     subst (λ r. Answers w w (plain_course l r) (exception text)) (sym e)
     (nothing_asked w (exception text))
 

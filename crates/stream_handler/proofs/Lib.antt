@@ -8,4 +8,4 @@ pub mod ServeLemmas
 pub mod OneLemmas
 pub mod ConnectionLemmas
 pub mod RecordLemmas
-mod AnsweredLemmas
+mod ReadLemmas

@@ -11,10 +11,10 @@ use Rattle.exchange_rules.specs.Cells.{Log}
 use Rattle.exchange_rules.specs.Courses.{ends}
 use Rattle.exchange_rules.specs.Following.{Follows, Writer, Answers, cleared, counts}
 use Rattle.exchange_rules.specs.Looking.{LooksFirst}
-use Rattle.exchange_rules.specs.Rows.{Layout, cut_course, finish_course, index_course, shares_of, writes_course}
+use Rattle.exchange_rules.specs.Rows.{Layout, finish_course, index_course, shares_of, writes_course}
 use Rattle.exchange_rules.specs.Recorded.{AreRecorded, AreLookedAt}
 use Rattle.exchange_rules.proofs.CountLemmas.{IsCounted, follows_counted}
-use Rattle.exchange_rules.proofs.LookingLemmas.{cut_first, either, finish_first, ok_first, then_first, writes_first}
+use Rattle.exchange_rules.proofs.LookingLemmas.{either, finish_first, ok_first, then_first, writes_first}
 use Rattle.exchange_rules.proofs.RecordedLemmas.{counted_join, counted_none, follows_looked, follows_recorded}
 use Rattle.form_request.specs.Params.{first_value}
 use Rattle.form_request.specs.declared.request.Handler.{Handler}
@@ -22,29 +22,39 @@ use Rattle.form_request.specs.declared.request.Handler.TheVariants.{Stream, Upda
 use Rattle.form_request.specs.declared.request.Request.{Request}
 use Rattle.json_text.specs.Updates.{update_in}
 use Rattle.expr_types.specs.ExprTree.{ExprTree}
-use Rattle.expr_check.specs.Walk.{collections_of}
 use Rattle.topic_book.specs.Fitness.{shards_of}
 use Rattle.stream_handler.specs.Exchanges.{Answer, AreSound, IsAnswered, IsSound, exchanges_of, owns_of}
 use Rattle.expr_check.specs.declared.roots.Roots.TheVariants.{All}
-use Rattle.stream_handler.specs.Expressions.{asked_of}
+use Rattle.expr_text.specs.Reading.{expression_of}
+use Rattle.root_runs.specs.Runs.{list_course, root_course}
+use Rattle.root_runs.proofs.RootLemmas.{roots_first}
 use Rattle.stream_handler.specs.Outcomes.{reply_of}
 use Rattle.stream_handler.specs.Refusals.{refusal}
-use Rattle.stream_handler.specs.Requests.{RequestsLookFirst, handled, is_true, plain_course, request_course, stream_course, update_course}
+use Rattle.stream_handler.specs.Requests.{RequestsLookFirst, handled, is_true, expression_course, outcome_of, plain_course, request_course, stream_course, update_course}
 use Rattle.stream_handler.specs.declared.exchange.Answered.{Answered}
 use Rattle.stream_handler.specs.declared.exchange.Exchange.{Exchange}
 use Rattle.stream_handler.specs.declared.outcome.Outcome.{Outcome}
+use Rattle.stream_handler.specs.declared.outcome.Outcome.TheVariants.{ResultSet}
 
--- an expression looks first
+-- an expression that only reads looks first
 plain_first : (l : Layout) (read : Result ExprTree ByteList) → LooksFirst None (plain_course l read)
 plain_first l (Err text) = tt
 plain_first l (Ok e) =
-    then_first None (cut_course l.names [] (collections_of e)) _
-    (cut_first l.names [] (collections_of e)) (λ cut. tt)
+    then_first None (list_course l e) (λ docs. ends (ResultSet docs None)) (roots_first.list l e)
+    (λ docs. tt)
+
+-- so does each expression
+expression_first : (l : Layout) (read : Result ExprTree ByteList)
+    → LooksFirst None (expression_course l read)
+expression_first l (Err text) = tt
+expression_first l (Ok e) =
+    then_first None (root_course l e) (λ done. ends (outcome_of done)) (roots_first.root l e)
+    (λ done. tt)
 
 -- so does one in a parameter
 stream_first : (l : Layout) (given : Option ByteList) → LooksFirst None (stream_course l given)
 stream_first l None = tt
-stream_first l (Some bytes) = plain_first l (asked_of All l.names bytes)
+stream_first l (Some bytes) = expression_first l (expression_of All l.names bytes)
 
 -- so does an update
 update_first : (l : Layout) (collection : ByteList) (commit : Bool)
@@ -73,7 +83,8 @@ request_first l r =
 
 -- and each expression
 pub requests_first : RequestsLookFirst
-requests_first = record { request = request_first; expression = plain_first }
+requests_first =
+    record { request = request_first; plain = plain_first; expression = expression_first }
 
 -- accesses that follow the whole course of a request make its exchange sound
 pub sound_of : (l : Layout) (me : ℕ) (seen : List Log) (had : List ℕ) (r : Request) (x : Exchange)

@@ -1,4 +1,3 @@
-pub mod Expressions
 pub mod Responses
 pub mod Outcomes
 pub mod Refusals

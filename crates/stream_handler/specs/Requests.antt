@@ -2,12 +2,10 @@
 -- Expressions" and "Indexing with Update Handlers"; texts of refusals own).
 use Rattle.std.specs.Prelude.{ℕ, ◌≡◌, ◌≢◌, ◌++◌, ◌||◌, Bool, false, [], Option, Some, None, Result, Ok, Err}
 use Rattle.std.specs.Prelude.{bytes_eq, codes, nat_lt, if◌then◌else◌}
-use Rattle.std.specs.Fmt.{decimal}
 use Rattle.tuple_values.specs.Document.{ByteList}
 use Rattle.exchange_rules.specs.Courses.{Course, ends, and_then}
-use Rattle.exchange_rules.specs.Following.{Writer, Answers, Begins}
 use Rattle.exchange_rules.specs.Looking.{LooksFirst}
-use Rattle.exchange_rules.specs.Rows.{Layout, index_course, cut_course}
+use Rattle.exchange_rules.specs.Rows.{Layout, index_course}
 use Rattle.exchange_rules.specs.declared.fault.SiteFault.{SiteFault}
 use Rattle.exchange_rules.specs.declared.fault.SiteFault.TheVariants.{ShardFull, TopicBound, BookFull, OutOfMemory}
 use Rattle.form_request.specs.Params.{first_value}
@@ -20,26 +18,17 @@ use Rattle.json_text.specs.declared.fault.JsonFault.{JsonFault}
 use Rattle.json_text.specs.declared.fault.JsonFault.TheVariants as bad
 use Rattle.json_text.specs.declared.update.Update as body
 use Rattle.expr_types.specs.ExprTree.{ExprTree}
-use Rattle.expr_check.specs.Walk.{collections_of}
-use Rattle.stream_handler.specs.Expressions.{list_over, asked_of}
 use Rattle.expr_check.specs.declared.roots.Roots.TheVariants.{All}
+use Rattle.expr_text.specs.Reading.{expression_of}
+use Rattle.root_runs.specs.Runs.{list_course, root_course}
+use Rattle.root_runs.specs.Texts.{full_text}
+use Rattle.root_runs.specs.declared.done.Done.{Done}
 use Rattle.topic_book.specs.Fitness.{shards_of}
 use Rattle.stream_handler.specs.Outcomes.{exception}
 use Rattle.stream_handler.specs.Refusals.{refusal}
 use Rattle.stream_handler.specs.declared.outcome.Outcome.{Outcome}
 use Rattle.stream_handler.specs.declared.outcome.Outcome.TheVariants.{Indexed, Refused, ResultSet}
 use Rattle.stream_handler.specs.declared.update.FullShard.{FullShard}
-
--- the writer followed the course to this answer, or a beginning of it where memory was wanting
-abbrev pub Carried : {A E : Type 0} → Writer → Writer → Course A → Result A E → Type 0
-Carried old new course (Ok a) = Answers old new course a
-Carried old new course (Err fault) = Begins old new course
-
--- what a reply says of a shard that is full, when so many writes of the request stand
-abbrev pub full_text : ByteList → ℕ → ℕ → ByteList
-full_text collection shard stand =
-    codes "ShardFull " ++ collection ++ codes " " ++ decimal shard ++ codes " after "
-    ++ decimal stand ++ codes " writes"
 
 -- an update that was carried out, or its refusal; no topic is bound by an update
 abbrev pub indexed : Result ℕ SiteFault → Outcome
@@ -77,17 +66,24 @@ update_course l collection commit (Ok update) =
     and_then (index_course l collection update.writes (update.commit || commit))
     (λ r. ends (indexed r))
 
--- an expression that is asked for: a cut of its collections, and what it gives over it
+-- an expression that only reads: what it gives over a cut of its collections
 abbrev pub plain_course : Layout → Result ExprTree ByteList → Course Outcome
 plain_course l (Err text) = ends (exception text)
-plain_course l (Ok e) =
-    and_then (cut_course l.names [] (collections_of e))
-    (λ cut. ends (ResultSet (list_over e cut) None))
+plain_course l (Ok e) = and_then (list_course l e) (λ docs. ends (ResultSet docs None))
+
+-- what an expression did, as it is answered
+abbrev pub outcome_of : Done → Outcome
+outcome_of done = ResultSet done.docs done.exception
+
+-- an expression, or what a reply says of why there is none
+abbrev pub expression_course : Layout → Result ExprTree ByteList → Course Outcome
+expression_course l (Err text) = ends (exception text)
+expression_course l (Ok e) = and_then (root_course l e) (λ done. ends (outcome_of done))
 
 -- the expression of a parameter, which has to be there
 abbrev pub stream_course : Layout → Option ByteList → Course Outcome
 stream_course l None = ends (exception (codes "MissingParam stream expr"))
-stream_course l (Some bytes) = plain_course l (asked_of All l.names bytes)
+stream_course l (Some bytes) = expression_course l (expression_of All l.names bytes)
 
 -- whether a parameter asks for a commit: `true` alone does
 abbrev pub is_true : Option ByteList → Bool
@@ -110,5 +106,7 @@ request_course l r =
 -- the course of each request looks first, and so does that of each expression
 pub record RequestsLookFirst : Type 0 where
   pub request : (l : Layout) (r : Request) → LooksFirst None (request_course l r)
-  pub expression : (l : Layout) (read : Result ExprTree ByteList)
+  pub plain : (l : Layout) (read : Result ExprTree ByteList)
       → LooksFirst None (plain_course l read)
+  pub expression : (l : Layout) (read : Result ExprTree ByteList)
+      → LooksFirst None (expression_course l read)

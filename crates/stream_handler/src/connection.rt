@@ -6,8 +6,9 @@ ghost use Rattle.stream_handler.specs.Serving.{end_of, exchanges_in};
 
 use crate::{End, Exchange, Exchanges, OneEnd, SessionEnd, serve_one};
 use form_request::Requests;
-use io_edge::{Sink, Source};
+use io_edge::{Gate, Sink, Source};
 use std::alloc::Global;
+use std::thread::Threads;
 use stream_site::Turns;
 
 /// How many requests of a connection are answered at most.
@@ -38,12 +39,14 @@ fn keep(exchanges: &mut Vec<Exchange>, one: OneEnd) -> Option<End>
 }
 
 // Serves the requests of a connection until it is over, or as many as it has at most.
-fn serve_all<T: Turns, S: Source, K: Sink>(
+fn serve_all<T: Turns, R: Threads + Sync, S: Source, K: Sink, G: Gate>(
     alloc: Global,
+    rt: &R,
     site: &mut T,
     requests: &mut Requests,
     source: &mut S,
     sink: &mut K,
+    gate: &G,
 ) -> (Vec<Exchange>, End)
     requires { record_of (T.writer site.old) ≡ nothing }
     ensures served { IsBounded (T.layout site.old)
@@ -59,7 +62,7 @@ fn serve_all<T: Turns, S: Source, K: Sink>(
         if exchanges.reserve(1).is_err() {
             return (exchanges, End::OutOfMemory);
         }
-        let one = serve_one(alloc, site, requests, source, sink);
+        let one = serve_one(alloc, rt, site, requests, source, sink, gate);
         if let Some(end) = keep(&mut exchanges, one) {
             return (exchanges, end);
         }
@@ -68,11 +71,13 @@ fn serve_all<T: Turns, S: Source, K: Sink>(
 }
 
 /// Serves a connection to its end. At most 10,000 requests are answered.
-pub fn serve_connection<T: Turns, S: Source, K: Sink>(
+pub fn serve_connection<T: Turns, R: Threads + Sync, S: Source, K: Sink, G: Gate>(
     alloc: Global,
+    rt: &R,
     site: &mut T,
     source: &mut S,
     sink: &mut K,
+    gate: &G,
 ) -> SessionEnd
     ensures session { IsConnection (T.layout site.old)
         (wire begun (S.left source.old) (S.faults source.old) (K.written sink.old)
@@ -83,7 +88,7 @@ pub fn serve_connection<T: Turns, S: Source, K: Sink>(
 {
     let _ = site.take_record();
     let mut requests = Requests::begin(alloc);
-    let (exchanges, end) = serve_all(alloc, site, &mut requests, source, sink);
+    let (exchanges, end) = serve_all(alloc, rt, site, &mut requests, source, sink, gate);
     SessionEnd {
         exchanges: Exchanges::from_vec(exchanges),
         end,

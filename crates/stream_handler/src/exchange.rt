@@ -6,8 +6,10 @@ ghost use Rattle.stream_handler.specs.Requests.{request_course};
 
 use crate::run_request;
 use form_request::Request;
+use io_edge::Gate;
 use shard_versions::{CutMarks, OwnMarks};
 use std::alloc::Global;
+use std::thread::Threads;
 use stream_site::Turns;
 use tuple_values::{Bytes, Memory, Sequence};
 
@@ -32,7 +34,13 @@ pub struct Answered {
 
 /// Carries out a request, which is dropped. The site's record begins anew, and is the exchange's at
 /// the end. Where memory is wanting, what was done so far stands in the record. All times are 0.
-pub fn answer<T: Turns>(alloc: Global, site: &mut T, request: Request) -> Result<Answered, Memory>
+pub fn answer<T: Turns, R: Threads + Sync, G: Gate>(
+    alloc: Global,
+    rt: &R,
+    site: &mut T,
+    request: Request,
+    gate: &G,
+) -> Result<Answered, Memory>
     ensures ok { IfOk result (IsAnswered (T.layout site.old) (T.writer site.old)
         (T.writer site.new) request) }
     ensures err { IfErr result (λ _. Begins (cleared (T.writer site.old)) (T.writer site.new)
@@ -40,7 +48,7 @@ pub fn answer<T: Turns>(alloc: Global, site: &mut T, request: Request) -> Result
     ensures layout { T.layout site.new ≡ T.layout site.old }
 {
     let _ = site.take_record();
-    let outcome = run_request(alloc, site, &request)?;
+    let outcome = run_request(alloc, rt, site, &request, gate)?;
     let reply = outcome.reply(alloc, request.closes, 0)?;
     let record = site.take_record();
     let exchange = Exchange {

@@ -6,16 +6,19 @@ ghost use Rattle.stream_handler.specs.Serving.{IsReplied, sunk};
 use crate::waiting::next_request;
 use crate::{Answered, End, OneEnd, answer};
 use form_request::{Request, Requests};
-use io_edge::{Put, Sink, Source};
+use io_edge::{Gate, Put, Sink, Source};
 use std::alloc::Global;
+use std::thread::Threads;
 use stream_site::Turns;
 
 // Carries out a request and writes its reply.
-fn reply_to<T: Turns, K: Sink>(
+fn reply_to<T: Turns, R: Threads + Sync, K: Sink, G: Gate>(
     alloc: Global,
+    rt: &R,
     site: &mut T,
     request: Request,
     sink: &mut K,
+    gate: &G,
 ) -> OneEnd
     ensures replied { IsReplied (T.layout site.old) (T.writer site.old) (T.writer site.new)
         request (sunk (K.written sink.old) (K.written sink.new) (K.faults sink.old)
@@ -23,7 +26,7 @@ fn reply_to<T: Turns, K: Sink>(
     ensures layout { T.layout site.new ≡ T.layout site.old }
 {
     let closes = request.closes;
-    let Ok(answered) = answer(alloc, site, request) else {
+    let Ok(answered) = answer(alloc, rt, site, request, gate) else {
         return OneEnd::Over {
             end: End::OutOfMemory,
             unfinished: None,
@@ -42,12 +45,14 @@ fn reply_to<T: Turns, K: Sink>(
 
 /// Serves the next request of a connection. The site's record begins anew. What is held of the
 /// stream and what is taken from the source is read as one.
-pub fn serve_one<T: Turns, S: Source, K: Sink>(
+pub fn serve_one<T: Turns, R: Threads + Sync, S: Source, K: Sink, G: Gate>(
     alloc: Global,
+    rt: &R,
     site: &mut T,
     requests: &mut Requests,
     source: &mut S,
     sink: &mut K,
+    gate: &G,
 ) -> OneEnd
     ensures served { IsOneEnd (T.layout site.old)
         (wire requests.old (S.left source.old) (S.faults source.old) (K.written sink.old)
@@ -58,7 +63,7 @@ pub fn serve_one<T: Turns, S: Source, K: Sink>(
 {
     let _ = site.take_record();
     match next_request(alloc, site.names(), requests, source, sink) {
-        Ok(request) => reply_to(alloc, site, request, sink),
+        Ok(request) => reply_to(alloc, rt, site, request, sink, gate),
         Err(end) => OneEnd::Over {
             end,
             unfinished: None,

@@ -1,11 +1,16 @@
-// What no clause can say: that the courses and replies mean what the rules say, and that each call
-// that takes memory succeeds, and that a stream may be given to another thread. Of two shards the second holds id `2` and the first id `3`.
-use crate::{End, SessionEnd, run_expression, run_request, serve_connection};
+// What no clause can say: that the courses and replies mean what the rules say, that each call that
+// takes memory succeeds, and that a stream may be given to another thread. Of two shards the second
+// holds id `2` and the first id `3`.
+use crate::{
+    End, SessionEnd, run_expression, run_plain_expression, run_request, run_root, serve_connection,
+};
 use expr_check::Roots;
+use expr_text::read_checked;
 use form_request::{Handler, Param, Params, Request};
-use io_edge::{MemorySink, MemorySource};
+use io_edge::{MemorySink, MemorySource, NoGate};
 use std::alloc::Global;
 use std::test::Fail;
+use std::thread::Threads;
 use stream_engine::Stream;
 use stream_site::PlainSite;
 use tuple_values::{Bytes, Memory, NameShards, Names, Numbers, Text};
@@ -43,8 +48,9 @@ fn request(
 }
 
 // What the site answers to the request; none where it doesn't know its collection.
-fn reply(
+fn reply<R: Threads + Sync>(
     alloc: Global,
+    rt: &R,
     site: &mut PlainSite,
     handler: Handler,
     param: Option<(&str, &str)>,
@@ -54,7 +60,7 @@ fn reply(
     if !site.knows(&request.collection) {
         return Ok(None);
     }
-    let outcome = run_request(alloc, site, &request)?;
+    let outcome = run_request(alloc, rt, site, &request, &NoGate)?;
     Ok(Some(outcome.reply(alloc, request.closes, 0)?))
 }
 
@@ -72,6 +78,7 @@ fn updates_and_searches_are_answered(rt: HostRuntime) -> Result<(), Fail> {
     let body = "[{\"id\":\"2\",\"n_i\":7},{\"id\":\"3\",\"n_i\":5}]";
     let updated = reply(
         alloc,
+        &rt,
         &mut site,
         Handler::Update,
         Some(("commit", "true")),
@@ -87,6 +94,7 @@ fn updates_and_searches_are_answered(rt: HostRuntime) -> Result<(), Fail> {
     let pending = "[{\"id\":\"4\",\"n_i\":1}]";
     let uncommitted = reply(
         alloc,
+        &rt,
         &mut site,
         Handler::Update,
         Some(("commit", "yes")),
@@ -94,7 +102,14 @@ fn updates_and_searches_are_answered(rt: HostRuntime) -> Result<(), Fail> {
     )?;
     assert!(rt; uncommitted.is_some());
     let expr = "search(c,q=\"*:*\",fl=\"id,n_i\",sort=\"n_i asc\")";
-    let found = reply(alloc, &mut site, Handler::Stream, Some(("expr", expr)), "")?;
+    let found = reply(
+        alloc,
+        &rt,
+        &mut site,
+        Handler::Stream,
+        Some(("expr", expr)),
+        "",
+    )?;
     assert!(rt;
         is_text(
             &found,
@@ -110,7 +125,7 @@ fn updates_and_searches_are_answered(rt: HostRuntime) -> Result<(), Fail> {
 fn refusals_are_told(rt: HostRuntime) -> Result<(), Fail> {
     let alloc = rt.alloc();
     let mut site = site(alloc)?;
-    let missing = reply(alloc, &mut site, Handler::Stream, None, "")?;
+    let missing = reply(alloc, &rt, &mut site, Handler::Stream, None, "")?;
     assert!(rt;
         is_text(
             &missing,
@@ -119,7 +134,7 @@ fn refusals_are_told(rt: HostRuntime) -> Result<(), Fail> {
          \"RESPONSE_TIME\":0}]}}",
         )
     );
-    let refused = reply(alloc, &mut site, Handler::Update, None, "{")?;
+    let refused = reply(alloc, &rt, &mut site, Handler::Update, None, "{")?;
     assert!(rt;
         is_text(
             &refused,
@@ -151,7 +166,7 @@ fn expressions_are_answered(rt: HostRuntime) -> Result<(), Fail> {
     ];
     for (expr, docs) in cases {
         let mut site = site(alloc)?;
-        let outcome = run_expression(alloc, &mut site, expr.as_bytes(), Roots::All)?;
+        let outcome = run_expression(alloc, &rt, &mut site, expr.as_bytes(), &NoGate)?;
         let body = outcome.body(alloc, 0)?;
         let wanted = format!(in alloc; "{{\"result-set\":{{\"docs\":[{docs}]}}}}")?;
         assert!(rt; body.as_slice() == wanted.as_bytes());
@@ -159,14 +174,40 @@ fn expressions_are_answered(rt: HostRuntime) -> Result<(), Fail> {
     Ok(())
 }
 
+#[test]
+fn with_plain_roots_expressions_only_read(rt: HostRuntime) -> Result<(), Fail> {
+    let alloc = rt.alloc();
+    let mut site = site(alloc)?;
+    let outcome = run_plain_expression(alloc, &rt, &mut site, b"update(c,tuple(id=7))", &NoGate)?;
+    let body = outcome.body(alloc, 0)?;
+    let wanted =
+        b"{\"result-set\":{\"docs\":[{\"EOF\":true,\"EXCEPTION\":\"BadPlace update\",\"RESPONSE_TIME\":0}]}}";
+    assert!(rt; body.as_slice() == wanted.as_slice());
+    Ok(())
+}
+
+#[test]
+fn an_update_is_run_and_counted(rt: HostRuntime) -> Result<(), Fail> {
+    let alloc = rt.alloc();
+    let mut site = site(alloc)?;
+    let checked = read_checked(alloc, site.names(), b"update(c,tuple(id=7))", Roots::All)?;
+    let run = run_root(alloc, &rt, &mut site, &checked, &NoGate)?;
+    assert!(rt; run.read == 1 && run.exception.is_none() && run.docs.count() == 1);
+    Ok(())
+}
+
 // What a connection of these bytes is served at a new site, seven bytes at a time.
-fn serve(alloc: Global, bytes: &str) -> Result<(SessionEnd, MemorySink), Memory> {
+fn serve<R: Threads + Sync>(
+    alloc: Global,
+    rt: &R,
+    bytes: &str,
+) -> Result<(SessionEnd, MemorySink), Memory> {
     let mut site = site(alloc)?;
     let mut all = Bytes::new(alloc);
     all.extend(bytes.as_bytes())?;
     let mut source = MemorySource::new(all, 7, Numbers::new(alloc));
     let mut sink = MemorySink::new(alloc, Numbers::new(alloc));
-    let served = serve_connection(alloc, &mut site, &mut source, &mut sink);
+    let served = serve_connection(alloc, rt, &mut site, &mut source, &mut sink, &NoGate);
     Ok((served, sink))
 }
 
@@ -196,7 +237,7 @@ fn a_connection_is_served_until_it_closes(rt: HostRuntime) -> Result<(), Fail> {
     let alloc = rt.alloc();
     let requests = format!(in alloc; "{UPDATE}{SEARCH}{UPDATE}")?;
     let wanted = format!(in alloc; "{UPDATED}{FOUND}")?;
-    let (served, sink) = serve(alloc, requests.as_str())?;
+    let (served, sink) = serve(alloc, &rt, requests.as_str())?;
     assert!(rt; served.end == End::Closed && served.exchanges.len() == 2);
     assert!(rt; has(&served, 0, 2, 1) && has(&served, 1, 2, 0));
     assert!(rt; sink.bytes() == wanted.as_bytes());
@@ -206,11 +247,11 @@ fn a_connection_is_served_until_it_closes(rt: HostRuntime) -> Result<(), Fail> {
 #[test]
 fn a_connection_ends_at_what_is_refused_or_cut(rt: HostRuntime) -> Result<(), Fail> {
     let alloc = rt.alloc();
-    let (refused, _) = serve(alloc, "GET /solr/d/stream HTTP/1.1\r\n\r\n")?;
+    let (refused, _) = serve(alloc, &rt, "GET /solr/d/stream HTTP/1.1\r\n\r\n")?;
     assert!(rt; refused.end == End::Refused { status: 404 });
-    let (cut, _) = serve(alloc, "GET /solr")?;
+    let (cut, _) = serve(alloc, &rt, "GET /solr")?;
     assert!(rt; cut.end == End::Cut { held: 9 });
-    let (ended, _) = serve(alloc, "\r\n")?;
+    let (ended, _) = serve(alloc, &rt, "\r\n")?;
     assert!(rt; ended.end == End::Ended);
     Ok(())
 }

@@ -3,23 +3,16 @@ ghost use Rattle.std.specs.Prelude.{◌≡◌, ◌<◌, ◌||◌, IfOk, Ok};
 ghost use Rattle.topic_book.specs.Fitness.{shards_of};
 ghost use Rattle.exchange_rules.specs.Steps.{AreStorableWrites};
 ghost use Rattle.json_text.specs.Updates.{update_in};
-ghost use Rattle.stream_handler.specs.Requests.{Carried, IsBadBody, IsRefusal, full_shard, full_text, update_course};
+ghost use Rattle.exchange_rules.specs.Calls.{Carried};
+ghost use Rattle.stream_handler.specs.Requests.{IsBadBody, IsRefusal, full_shard, update_course};
 
 use crate::Outcome;
 use exchange_rules::SiteFault;
 use json_text::{JsonFault, Update, read_update};
+use root_runs::full_text;
 use std::alloc::Global;
 use stream_site::{Turns, index_over};
 use tuple_values::{Memory, Text};
-
-// What a reply says of a shard that is full.
-fn full_text(alloc: Global, collection: &Text, shard: u16, stand: u64) -> Result<Text, Memory>
-    ensures { IfOk result (λ text. text ≡ full_text collection.now shard stand) }
-{
-    let collection = collection.as_str();
-    let text = format!(in alloc; "ShardFull {collection} {shard} after {stand} writes")?;
-    Ok(Text::from_string(text))
-}
 
 /// A shard that is full, and how many writes of the update stand.
 #[derive(Drop)]

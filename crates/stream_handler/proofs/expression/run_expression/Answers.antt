@@ -1,10 +1,11 @@
-use Rattle.std.proofs.Common.{◌≡◌, ap, sym, subst}
+use Rattle.std.proofs.Common.{◌≡◌, sym, subst}
 use Rattle.std.specs.Prelude.{Err}
 use Rattle.exchange_rules.specs.Following.{Answers}
+use Rattle.expr_check.specs.declared.roots.Roots.TheVariants.{All}
 use Rattle.expr_text.specs.Reading.{expression_of, IsTold}
-use Rattle.stream_handler.specs.Expressions.{answered, asked_of}
-use Rattle.stream_handler.specs.Requests.{plain_course}
-use Rattle.stream_handler.proofs.CarriedLemmas.{nothing_done, told_done}
+use Rattle.stream_handler.specs.Requests.{expression_course}
+use Rattle.root_runs.proofs.CarriedLemmas.{nothing_done}
+use Rattle.stream_handler.proofs.CarriedLemmas.{told_done}
 use Rattle.stream_handler.proofs.expression.run_expression.Goals as goal
 
 pub returns-in-Err-Told-clause-course : goal.returns-in-Err-Told-clause-course
@@ -13,15 +14,15 @@ returns-in-Err-Told-clause-course g c =
     let l = g.T.Turns.layout c.args.site.now in
     let text = c.in-Err-Told.text in
     let told =
-    subst (λ f. IsTold (expression_of c.args.roots c.names.result.now c.args.bytes.now) (Err f))
+    subst (λ f. IsTold (expression_of All c.names.result.now c.args.bytes.now) (Err f))
     c.in-Err-Told.field-0-is c.in-Err-Told.ensures in
-    let read = ap answered (subst (λ names. expression_of c.args.roots names c.args.bytes.now ≡ Err text)
-    c.names.ensures.names told) in
-    subst (λ o. Answers w w (plain_course l (asked_of c.args.roots l.names c.args.bytes.now)) o)
-    (sym c.exception.ensures) (told_done w l (asked_of c.args.roots l.names c.args.bytes.now) text read)
+    let read = subst (λ names. expression_of All names c.args.bytes.now ≡ Err text)
+    c.names.ensures.names told in
+    subst (λ o. Answers w w (expression_course l (expression_of All l.names c.args.bytes.now)) o)
+    (sym c.exception.ensures) (told_done w l (expression_of All l.names c.args.bytes.now) text read)
 
 pub returns-in-Err-OutOfMemory-clause-course : goal.returns-in-Err-OutOfMemory-clause-course
 returns-in-Err-OutOfMemory-clause-course g c =
     let l = g.T.Turns.layout c.args.site.now in
     nothing_done (g.T.Turns.writer c.args.site.now)
-    (plain_course l (asked_of c.args.roots l.names c.args.bytes.now))
+    (expression_course l (expression_of All l.names c.args.bytes.now))

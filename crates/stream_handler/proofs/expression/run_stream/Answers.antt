@@ -3,7 +3,8 @@ use Rattle.std.proofs.lemmas.Result.{err_from_is_err_and}
 use Rattle.std.specs.Prelude.{option_map}
 use Rattle.exchange_rules.specs.Following.{Answers}
 use Rattle.stream_handler.specs.Requests.{stream_course}
-use Rattle.stream_handler.proofs.CarriedLemmas.{nothing_done, begun, missing_done}
+use Rattle.root_runs.proofs.CarriedLemmas.{nothing_done, begun}
+use Rattle.stream_handler.proofs.CarriedLemmas.{missing_done}
 use Rattle.stream_handler.proofs.expression.run_stream.Goals as goal
 
 pub returns-in_err-text-in-None-clause-course : goal.returns-in_err-text-in-None-clause-course

@@ -1,0 +1,4 @@
+pub mod PlainLemmas
+pub mod CarriedLemmas
+pub mod DeedLemmas
+pub mod RootLemmas

@@ -1,0 +1,18 @@
+use Rattle.std.proofs.Common.{◌∙◌, sym}
+use Rattle.expr_check.specs.Parts.{input_of}
+use Rattle.expr_check.specs.Views.{tree_of}
+use Rattle.root_runs.specs.Dones.{unknown}
+use Rattle.root_runs.specs.Runs.{update_over, update_with}
+use Rattle.root_runs.proofs.CarriedLemmas.{ends_with}
+use Rattle.root_runs.proofs.RootLemmas.{there_told}
+use Rattle.root_runs.proofs.updating.run_update_of.Goals as goal
+
+pub returns-then-not-is_there-clause-course : goal.returns-then-not-is_there-clause-course
+returns-then-not-is_there-clause-course g c =
+    let w = g.T.Turns.writer c.args.site.now in
+    let l = g.T.Turns.layout c.args.site.now in
+    let e = tree_of c.args.checked.now in
+    let dest = c.args.dest.now in
+    ends_with w (update_over l e dest c.args.batch_size) (unknown dest) c.unknown.result
+    (there_told l.names dest (update_with l e dest c.args.batch_size (input_of e))
+    (sym c.is_there.ensures ∙ c.if-not-is_there.true)) c.unknown.ensures

@@ -1,0 +1,20 @@
+//! What an expression does at a site: it gives tuples, writes them to a collection, commits one.
+#![tactic(auto)]
+
+mod committing;
+mod deed;
+mod done;
+mod following;
+mod laws;
+mod plain;
+mod reading;
+mod running;
+mod texts;
+mod there;
+mod updating;
+
+pub use done::Done;
+pub use laws::roots_look_first;
+pub use reading::run_plain;
+pub use running::{RootRun, run_deed, run_root};
+pub use texts::full_text;

@@ -1,0 +1,115 @@
+// Expressions, carried out at a site.
+ghost use Rattle.std.specs.Prelude.{◌≡◌, true, IfOk, IfErr};
+ghost use Rattle.exchange_rules.specs.Calls.{Carried};
+ghost use Rattle.exchange_rules.specs.Courses.{ends};
+ghost use Rattle.exchange_rules.specs.Following.{Begins, cleared};
+ghost use Rattle.expr_check.specs.Views.{tree_of};
+ghost use Rattle.root_runs.specs.Dones.{given};
+ghost use Rattle.root_runs.specs.Rooted.{IsRun};
+ghost use Rattle.root_runs.specs.Runs.{reads_then, root_course};
+
+use crate::Done;
+use crate::committing::run_commit_of;
+use crate::deed::{Deed, deed_of};
+use crate::following::run_follow;
+use crate::plain::is_plain;
+use crate::reading::run_plain;
+use crate::updating::run_update_of;
+use expr_check::Checked;
+use io_edge::Gate;
+use shard_versions::{CutMarks, OwnMarks};
+use std::alloc::Global;
+use std::thread::Threads;
+use stream_site::Turns;
+use tuple_values::{Memory, Text, Tuples};
+
+// What an expression gives that only reads.
+fn give_plain<T: Turns, R: Threads + Sync, G: Gate>(
+    alloc: Global,
+    rt: &R,
+    site: &mut T,
+    checked: &Checked,
+    gate: &G,
+) -> Result<Done, Memory>
+    ensures course { Carried (T.writer site.old) (T.writer site.new)
+        (reads_then (T.layout site.old) (tree_of checked.now) (λ docs. ends (given docs))) result }
+    ensures layout { T.layout site.new ≡ T.layout site.old }
+    ensures home { T.home site.new ≡ T.home site.old }
+{
+    let expr = checked.expr();
+    if !is_plain(expr) {
+        return Done::misplaced(alloc, expr);
+    }
+    let docs = run_plain(alloc, rt, site, checked, gate)?;
+    Ok(Done::given(docs))
+}
+
+/// What an expression does at the site. After an `Err` a beginning of it was done.
+pub fn run_deed<T: Turns, R: Threads + Sync, G: Gate>(
+    alloc: Global,
+    rt: &R,
+    site: &mut T,
+    checked: &Checked,
+    gate: &G,
+) -> Result<Done, Memory>
+    ensures course { Carried (T.writer site.old) (T.writer site.new)
+        (root_course (T.layout site.old) (tree_of checked.now)) result }
+    ensures layout { T.layout site.new ≡ T.layout site.old }
+    ensures home { T.home site.new ≡ T.home site.old }
+{
+    match deed_of(checked.expr()) {
+        Deed::Reads => give_plain(alloc, rt, site, checked, gate),
+        Deed::Follows {
+            checkpoints,
+            src,
+            id,
+        } => run_follow(alloc, site, checkpoints, src, id, checked),
+        Deed::Writes { dest, batch_size } => {
+            run_update_of(alloc, rt, site, dest, batch_size, checked, gate)
+        }
+        Deed::Commits { dest, batch_size } => {
+            run_commit_of(alloc, rt, site, dest, batch_size, checked, gate)
+        }
+        Deed::Repeats => Done::stopped(alloc, "NotYet daemon"),
+    }
+}
+
+/// What an expression did, and its looks and own steps, each in order. `read` is how many tuples it
+/// read to write or to pass them on; 0 with an exception, and for other roots than update and
+/// commit.
+#[derive(Debug, Drop)]
+pub struct RootRun {
+    pub docs: Tuples,
+    pub exception: Option<Text>,
+    pub read: u64,
+    pub marks: CutMarks,
+    pub own: OwnMarks,
+}
+
+/// Carries out an expression at the site. The site's record begins anew, and is the run's at the end.
+/// Where memory is wanting, what was done so far stands in the record.
+pub fn run_root<T: Turns, R: Threads + Sync, G: Gate>(
+    alloc: Global,
+    rt: &R,
+    site: &mut T,
+    checked: &Checked,
+    gate: &G,
+) -> Result<RootRun, Memory>
+    ensures ok { IfOk result (IsRun (T.layout site.old) (T.writer site.old) (T.writer site.new)
+        (tree_of checked.now)) }
+    ensures err { IfErr result (λ _. Begins (cleared (T.writer site.old)) (T.writer site.new)
+        (root_course (T.layout site.old) (tree_of checked.now))) }
+    ensures layout { T.layout site.new ≡ T.layout site.old }
+    ensures home { T.home site.new ≡ T.home site.old }
+{
+    let _ = site.take_record();
+    let done = run_deed(alloc, rt, site, checked, gate)?;
+    let record = site.take_record();
+    Ok(RootRun {
+        docs: done.docs,
+        exception: done.exception,
+        read: done.read,
+        marks: record.marks,
+        own: record.own,
+    })
+}
