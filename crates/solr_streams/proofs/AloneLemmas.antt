@@ -2,7 +2,7 @@
 use Rattle.std.proofs.Common.{◌≡◌, ℕ, zero, suc, ◌+◌, List, [], ◌∷◌, ◌++◌, get_or, map, refl, sym, ap, ◌∙◌, subst, append_assoc}
 use Rattle.std.specs.Prelude.{None, Result, Ok, Err, replicate}
 use Rattle.std.proofs.lemmas.List.{append-nil}
-use Rattle.tuple_values.specs.Document.{ByteList}
+use Rattle.tuple_values.specs.Document.{ByteList, Doc}
 use Rattle.tuple_values.specs.declared.names.NameShards.{NameShards}
 use Rattle.shard_versions.specs.Histories.{History}
 use Rattle.shard_versions.specs.declared.cut.CutPart.{CutPart}
@@ -18,7 +18,9 @@ use Rattle.expr_types.specs.ExprTree.{ExprTree}
 use Rattle.stream_site.specs.Plains.{Plain, empty_site, layout_of, writer_of}
 use Rattle.expr_check.specs.Walk.{collections_of}
 use Rattle.expr_check.specs.declared.roots.Roots.TheVariants.{Plain as Reads}
-use Rattle.stream_handler.specs.Expressions.{list_over, asked_of}
+use Rattle.expr_text.specs.Reading.{expression_of}
+use Rattle.root_runs.specs.Lists.{list_over}
+use Rattle.root_runs.specs.Runs.{list_course}
 use Rattle.stream_handler.specs.Requests.{plain_course}
 use Rattle.stream_handler.specs.declared.outcome.Outcome.{Outcome}
 use Rattle.stream_handler.specs.declared.outcome.Outcome.TheVariants.{ResultSet}
@@ -73,6 +75,15 @@ cut_alone me logs empty names cut (c ∷ cs) =
     ∙ (cut_alone me logs empty names (cut ++ parts) cs
     ∙ ap (λ (x : List CutPart). (logs, x)) (append_assoc cut parts (empty_cut names cs))))
 
+-- the tuples of an expression
+list_alone : (me : ℕ) (logs : List Log) → AreEmpty logs → (l : Layout) (e : ExprTree)
+    → run_alone me logs (list_course l e)
+    ≡ (logs, list_over e (empty_cut l.names (collections_of e)))
+list_alone me logs empty l e =
+    alone_then me logs (cut_course l.names [] (collections_of e)) (λ cut. ends (list_over e cut))
+    ∙ ap (λ (r : List Log × List CutPart). run_alone me r.0 (ends (list_over e r.1)))
+    (cut_alone me logs empty l.names [] (collections_of e))
+
 -- an expression
 expression_alone : (me : ℕ) (logs : List Log) → AreEmpty logs → (l : Layout)
     (read : Result ExprTree ByteList)
@@ -80,30 +91,29 @@ expression_alone : (me : ℕ) (logs : List Log) → AreEmpty logs → (l : Layou
 expression_alone me logs empty l (Err text) = refl
 expression_alone me logs empty l (Ok e) =
     ap (λ (r : List Log × Outcome). r.1)
-    (alone_then me logs (cut_course l.names [] (collections_of e))
-    (λ cut. ends (ResultSet (list_over e cut) None))
-    ∙ ap (λ (r : List Log × List CutPart). run_alone me r.0 (ends (ResultSet (list_over e r.1) None)))
-    (cut_alone me logs empty l.names [] (collections_of e)))
+    (alone_then me logs (list_course l e) (λ docs. ends (ResultSet docs None))
+    ∙ ap (λ (r : List Log × List Doc). run_alone me r.0 (ends (ResultSet r.1 None)))
+    (list_alone me logs empty l e))
 
 -- over collections that are empty it is what the bytes mean
 pub alone_outcome-is : (names : List NameShards) (bytes : ByteList)
     → alone_outcome names bytes ≡ outcome_of (meaning names bytes)
 alone_outcome-is names bytes =
     expression_alone 1 (logs_at_start names) (new_logs (cells_in names)) (layout names)
-    (asked_of Reads names bytes)
+    (expression_of Reads names bytes)
 
 -- what was answered at a new site without another writer
 pub answered_alone : (old new : Plain) (names : List NameShards) (bytes : ByteList) (o : Outcome)
     → old ≡ empty_site names 268435456
     → ((had : List ℕ) → IsAlone 1 had (writer_of new).seen)
     → Answers (writer_of old) (writer_of new)
-    (plain_course (layout_of old) (asked_of Reads (layout_of old).names bytes)) o
+    (plain_course (layout_of old) (expression_of Reads (layout_of old).names bytes)) o
     → o ≡ alone_outcome names bytes
 answered_alone old new names bytes o is alone a =
-    let course = plain_course (layout_of old) (asked_of Reads (layout_of old).names bytes) in
+    let course = plain_course (layout_of old) (expression_of Reads (layout_of old).names bytes) in
     let e =
     answers_alone (writer_of old) (writer_of new) course o (alone (counts (writer_of old).seen))
     a in
     subst (λ (p : Plain). o ≡ (run_alone 1 (writer_of p).seen
-    (plain_course (layout_of p) (asked_of Reads (layout_of p).names bytes))).1) is
+    (plain_course (layout_of p) (expression_of Reads (layout_of p).names bytes))).1) is
     (sym (ap (λ (r : List Log × Outcome). r.1) e))

@@ -12,7 +12,8 @@ use Rattle.json_text.specs.Replies.{body}
 use Rattle.stream_site.specs.Plains.{empty_site, layout_of, writer_of}
 use Rattle.expr_check.specs.Walk.{collections_of}
 use Rattle.expr_check.specs.declared.roots.Roots.TheVariants.{Plain}
-use Rattle.stream_handler.specs.Expressions.{list_over, asked_of}
+use Rattle.expr_text.specs.Reading.{expression_of}
+use Rattle.root_runs.specs.Lists.{list_over}
 use Rattle.stream_handler.specs.Outcomes.{exception}
 use Rattle.stream_handler.specs.Requests.{plain_course}
 use Rattle.stream_handler.specs.declared.outcome.Outcome.{Outcome}
@@ -38,7 +39,7 @@ evaluated names (Err text) = Err text
 -- what the bytes of an expression mean over these collections, which are empty: tuples, or the text
 -- of their first fault
 abbrev pub meaning : List NameShards → ByteList → Result (List Doc) ByteList
-meaning names bytes = evaluated names (asked_of Plain names bytes)
+meaning names bytes = evaluated names (expression_of Plain names bytes)
 
 -- the reply that tells a meaning, at the time 0
 abbrev pub reply_of : Result (List Doc) ByteList → ByteList
@@ -69,4 +70,4 @@ logs_at_start names = (writer_of (empty_site names shard_limit)).seen
 -- what the expression is answered where its course runs alone, over those logs
 abbrev pub alone_outcome : List NameShards → ByteList → Outcome
 alone_outcome names bytes =
-    (run_alone 1 (logs_at_start names) (plain_course (layout names) (asked_of Plain names bytes))).1
+    (run_alone 1 (logs_at_start names) (plain_course (layout names) (expression_of Plain names bytes))).1

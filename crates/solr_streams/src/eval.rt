@@ -7,10 +7,10 @@ ghost use Rattle.solr_streams.specs.Replies.{alone_outcome, meaning, outcome_of}
 
 use crate::ending::Ending;
 use crate::input::{ReadFault, read_input};
-use expr_check::Roots;
-use io_edge::{Put, Sink, Source};
+use io_edge::{Gate, Put, Sink, Source};
 use std::alloc::Global;
-use stream_handler::{Outcome, run_expression};
+use std::thread::Threads;
+use stream_handler::{Outcome, run_plain_expression};
 use stream_site::PlainSite;
 use tuple_values::{Memory, Names};
 
@@ -32,12 +32,18 @@ fn ending_of(outcome: &Outcome) -> Ending
 
 // What the bytes of an expression give over these collections, which are made empty. It is what the
 // expression's course answers alone, and what the bytes mean.
-fn evaluate(alloc: Global, names: Names, bytes: &[u8]) -> Result<Outcome, Memory>
+fn evaluate<R: Threads + Sync, G: Gate>(
+    alloc: Global,
+    rt: &R,
+    names: Names,
+    bytes: &[u8],
+    gate: &G,
+) -> Result<Outcome, Memory>
     ensures alone { IfOk result (λ outcome. outcome ≡ alone_outcome names bytes.now) }
     ensures meant { IfOk result (λ outcome. outcome ≡ outcome_of (meaning names bytes.now)) }
 {
     let mut site = PlainSite::start(alloc, names, SHARD_LIMIT)?;
-    let outcome = run_expression(alloc, &mut site, bytes, Roots::Plain)?;
+    let outcome = run_plain_expression(alloc, rt, &mut site, bytes, gate)?;
 
     // Its contract says that the site had no other writer.
     let _ = site.names();
@@ -45,11 +51,13 @@ fn evaluate(alloc: Global, names: Names, bytes: &[u8]) -> Result<Outcome, Memory
 }
 
 /// Answers the expression that input holds, over these collections.
-pub fn eval<I: Source, O: Sink>(
+pub fn eval<R: Threads + Sync, I: Source, O: Sink, G: Gate>(
     alloc: Global,
+    rt: &R,
     names: Names,
     input: &mut I,
     output: &mut O,
+    gate: &G,
 ) -> Ending
     ensures writes { Writes result (Some (Eval names))
         (I.left input.old) (I.left input.new) (O.written output.old) (O.written output.new) }
@@ -66,7 +74,7 @@ pub fn eval<I: Source, O: Sink>(
         Err(ReadFault::Failed) => return Ending::InputFailed,
         Err(ReadFault::OutOfMemory) => return Ending::OutOfMemory,
     };
-    let Ok(outcome) = evaluate(alloc, names, &bytes) else {
+    let Ok(outcome) = evaluate(alloc, rt, names, &bytes, gate) else {
         return Ending::OutOfMemory;
     };
     let ending = ending_of(&outcome);

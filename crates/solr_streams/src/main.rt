@@ -14,6 +14,8 @@ mod script;
 mod script_tests;
 #[cfg(test)]
 mod tests;
+#[cfg(test)]
+mod topic_tests;
 mod words;
 
 use io_edge::{NoGate, ReaderSource, WriterSink};

@@ -14,7 +14,14 @@ use std::alloc::Global;
 use std::thread::Threads;
 use tuple_values::Words;
 
-fn run<I: Source, O: Sink>(alloc: Global, words: &Words, input: &mut I, output: &mut O) -> Ending
+fn run<R: Threads + Sync, I: Source, O: Sink, G: Gate>(
+    alloc: Global,
+    rt: &R,
+    words: &Words,
+    input: &mut I,
+    output: &mut O,
+    gate: &G,
+) -> Ending
     ensures writes { Writes result (command_of words.now)
         (I.left input.old) (I.left input.new) (O.written output.old) (O.written output.new) }
     ensures silent { result ≡ Ending.WordsRefused → O.written output.new ≡ O.written output.old }
@@ -26,8 +33,8 @@ fn run<I: Source, O: Sink>(alloc: Global, words: &Words, input: &mut I, output: 
     }) }
 {
     match read_command(alloc, words) {
-        Ok(Command::Eval { names }) => eval(alloc, names, input, output),
-        Ok(Command::Script { names }) => script(alloc, names, input, output),
+        Ok(Command::Eval { names }) => eval(alloc, rt, names, input, output, gate),
+        Ok(Command::Script { names }) => script(alloc, rt, names, input, output, gate),
         Err(WordsFault::Refused) => Ending::WordsRefused,
         Err(WordsFault::OutOfMemory) => Ending::OutOfMemory,
     }
@@ -36,13 +43,13 @@ fn run<I: Source, O: Sink>(alloc: Global, words: &Words, input: &mut I, output: 
 /// Runs the command that the words after the program's name give, and answers the status of the
 /// process. What is said below of output holds where the input tells its bytes.
 pub fn run_words<R: Threads + Sync, I: Source, O: Sink, E: Sink, G: Gate>(
-    _rt: &R,
+    rt: &R,
     alloc: Global,
     words: &Words,
     input: &mut I,
     output: &mut O,
     errors: &mut E,
-    _gate: &G,
+    gate: &G,
 ) -> u8
     // 2 comes exactly where the words are no command, and then nothing is written.
     ensures words { (result ≡ 2) ↔ (¬ (IsCommand words.now)) }
@@ -86,7 +93,7 @@ pub fn run_words<R: Threads + Sync, I: Source, O: Sink, E: Sink, G: Gate>(
         (λ ending. Writes ending (command_of words.now) (I.left input.old) (I.left input.new)
         (O.written output.old) (O.written output.new)) }
 {
-    let ending = run(alloc, words, input, output);
+    let ending = run(alloc, rt, words, input, output, gate);
     ending.say(errors);
     ending.status()
 }

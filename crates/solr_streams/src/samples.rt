@@ -100,6 +100,26 @@ pub(crate) const CLOSING_SEARCH: &str =
     "GET /solr/c/stream?expr=search(c,q%3D%22*:*%22,fl%3D%22id,n_i%22,\
      sort%3D%22id+asc%22) HTTP/1.0\r\n\r\n";
 
+pub(crate) const PUT_THREE: &str =
+    "POST /solr/c/update?commit=true HTTP/1.1\r\nHost: h\r\nContent-Length: 88\r\n\r\n\
+     [{\"g_s\":\"a\",\"id\":\"1\",\"n_i\":1},{\"g_s\":\"b\",\"id\":\"2\",\"n_i\":2},{\"g_s\":\"a\",\"id\":\"3\",\"n_i\":3}]";
+
+pub(crate) const ONE_WORKER: &str =
+    "GET /solr/c/stream?expr=parallel(c,rollup(search(c,q%3D%22*:*%22,fl%3D%22g_s,n_i%22,sort%3D%22g_s+asc%22,partitionKeys%3D%22g_s%22),\
+     over%3D%22g_s%22,sum(n_i),count(*)),workers%3D1,sort%3D%22g_s+asc%22) HTTP/1.1\r\n\r\n";
+
+pub(crate) const THREE_WORKERS: &str =
+    "GET /solr/c/stream?expr=parallel(c,rollup(search(c,q%3D%22*:*%22,fl%3D%22g_s,n_i%22,sort%3D%22g_s+asc%22,partitionKeys%3D%22g_s%22),\
+     over%3D%22g_s%22,sum(n_i),count(*)),workers%3D3,sort%3D%22g_s+asc%22) HTTP/1.1\r\n\r\n";
+
+pub(crate) const MANY_WORKERS: &str =
+    "GET /solr/c/stream?expr=parallel(c,rollup(search(c,q%3D%22*:*%22,fl%3D%22g_s,n_i%22,sort%3D%22g_s+asc%22,partitionKeys%3D%22g_s%22),\
+     over%3D%22g_s%22,sum(n_i),count(*)),workers%3D16,sort%3D%22g_s+asc%22) HTTP/1.1\r\n\r\n";
+
+pub(crate) const GROUPS: &str =
+    "HTTP/1.1 200 OK\r\nContent-Type: application/json\r\nContent-Length: 132\r\n\r\n\
+     {\"result-set\":{\"docs\":[{\"count(*)\":2,\"g_s\":\"a\",\"sum(n_i)\":4},{\"count(*)\":1,\"g_s\":\"b\",\"sum(n_i)\":2},{\"EOF\":true,\"RESPONSE_TIME\":0}]}}";
+
 // Requests, what they are answered, and the line at status 5.
 pub(crate) const STOPPED: [(&str, &str, &str); 4] = [
     (

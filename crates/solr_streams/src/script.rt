@@ -9,8 +9,9 @@ ghost use Rattle.solr_streams.specs.Serving.{HasServed, ending_of};
 use crate::ending::Ending;
 use crate::eval::SHARD_LIMIT;
 use form_request::Requests;
-use io_edge::{Sink, Source};
+use io_edge::{Gate, Sink, Source};
 use std::alloc::Global;
+use std::thread::Threads;
 use stream_handler::{End, OneEnd, serve_one};
 use stream_site::PlainSite;
 use tuple_values::Names;
@@ -30,12 +31,14 @@ fn ending_of(end: End) -> Ending
 }
 
 // Serves the messages of input until it is over.
-fn serve<I: Source, O: Sink>(
+fn serve<R: Threads + Sync, I: Source, O: Sink, G: Gate>(
     alloc: Global,
+    rt: &R,
     site: &mut PlainSite,
     requests: &mut Requests,
     input: &mut I,
     output: &mut O,
+    gate: &G,
 ) -> End
     requires { record_of (writer_of site.old) ≡ nothing }
     ensures { HasServed (layout_of site.old)
@@ -45,7 +48,7 @@ fn serve<I: Source, O: Sink>(
         (O.faults output.new)) (writer_of site.old) (writer_of site.new) result }
 {
     for _ in 0..u64::MAX {
-        match serve_one(alloc, site, requests, input, output) {
+        match serve_one(alloc, rt, site, requests, input, output, gate) {
             OneEnd::Served(_) => {}
             OneEnd::Last(_) => return End::Closed,
             OneEnd::Over { end, .. } => return end,
@@ -55,11 +58,13 @@ fn serve<I: Source, O: Sink>(
 }
 
 /// Carries out the requests that input holds, over these collections, and writes their replies.
-pub fn script<I: Source, O: Sink>(
+pub fn script<R: Threads + Sync, I: Source, O: Sink, G: Gate>(
     alloc: Global,
+    rt: &R,
     names: Names,
     input: &mut I,
     output: &mut O,
+    gate: &G,
 ) -> Ending
     ensures writes { Writes result (Some (Script names))
         (I.left input.old) (I.left input.new) (O.written output.old) (O.written output.new) }
@@ -75,7 +80,7 @@ pub fn script<I: Source, O: Sink>(
         return Ending::OutOfMemory;
     };
     let mut requests = Requests::begin(alloc);
-    let end = serve(alloc, &mut site, &mut requests, input, output);
+    let end = serve(alloc, rt, &mut site, &mut requests, input, output, gate);
 
     // Its contract says that the site had no other writer.
     let _ = site.names();

@@ -2,8 +2,9 @@
 use crate::running::{Failing, answers, check_line, run_on};
 use crate::samples::{
     ASKING, BAD_DOCUMENT, BAD_ID, BAD_JSON, BAD_NUMBER, BOTH, CLOSING_SEARCH, COMMIT, CONTINUE,
-    LAST, NO_DOCUMENT, NO_ID, NO_JSON, NONE, NOT_IN_FL, NOT_WHOLE, ONE, PUT, PUT_AND_COMMIT,
-    PUT_TWO, SEARCH, SEARCH_BOTH, SEARCH_ID, STOPPED, UPDATED,
+    GROUPS, LAST, MANY_WORKERS, NO_DOCUMENT, NO_ID, NO_JSON, NONE, NOT_IN_FL, NOT_WHOLE, ONE,
+    ONE_WORKER, PUT, PUT_AND_COMMIT, PUT_THREE, PUT_TWO, SEARCH, SEARCH_BOTH, SEARCH_ID, STOPPED,
+    THREE_WORKERS, UPDATED,
 };
 use std::test::Fail;
 
@@ -22,6 +23,22 @@ fn a_script_sorts_over_both_shards(rt: HostRuntime) -> Result<(), Fail> {
     let alloc = rt.alloc();
     let requests = [PUT_TWO, SEARCH_ID, SEARCH_BOTH];
     assert!(rt; answers(&rt, alloc, &requests, &[UPDATED, NOT_IN_FL, BOTH], 0, "")?);
+    Ok(())
+}
+
+#[test]
+fn any_number_of_workers_gives_the_same(rt: HostRuntime) -> Result<(), Fail> {
+    let requests = [PUT_THREE, ONE_WORKER, THREE_WORKERS, MANY_WORKERS];
+    assert!(rt;
+        answers(
+            &rt,
+            rt.alloc(),
+            &requests,
+            &[UPDATED, GROUPS, GROUPS, GROUPS],
+            0,
+            ""
+        )?
+    );
     Ok(())
 }
 

@@ -147,18 +147,12 @@ fn decorators_are_answered(rt: HostRuntime) -> Result<(), Fail> {
 }
 
 // Words, expressions that have a fault, and what is told of it.
-const UNSORTED: [(&str, &str, &str); 10] = [
+const UNSORTED: [(&str, &str, &str); 9] = [
     (
         "eval c=2",
         "parallel(c,top(n=1,search(c,q=\"*:*\",fl=\"g_s\",sort=\"g_s asc\",partitionKeys=\"g_s\"),\
          sort=\"g_s asc\"),workers=2,sort=\"g_s asc\")",
         "NotPartitioned top",
-    ),
-    (
-        "eval c=2",
-        "parallel(c,search(c,q=\"*:*\",fl=\"g_s\",sort=\"g_s asc\",partitionKeys=\"g_s\"),\
-         workers=2,sort=\"g_s asc\")",
-        "NotYet parallel",
     ),
     ("eval c=1", "update(c,tuple(id=1))", "BadPlace update"),
     (
