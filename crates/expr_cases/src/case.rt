@@ -1,9 +1,10 @@
 // One case, carried out at a site.
-use expr_check::Roots;
 use form_request::{Handler, Param, Params, Request};
+use io_edge::NoGate;
 use json_text::tuple_text;
 use std::alloc::Global;
-use stream_handler::{Outcome, run_expression, run_request};
+use std::thread::Threads;
+use stream_handler::{Outcome, run_expression, run_plain_expression, run_request};
 use stream_site::PlainSite;
 use tuple_values::{Bytes, Memory, Text, Tuples};
 
@@ -34,12 +35,12 @@ fn line_of(alloc: Global, outcome: Outcome) -> Result<Bytes, Memory> {
     Ok(out)
 }
 
-// An update of a collection with a commit.
-fn update(alloc: Global, collection: &str, body: &str) -> Result<Request, Memory> {
+// An update of a collection, with a commit or without one.
+fn update(alloc: Global, collection: &str, commit: &str, body: &str) -> Result<Request, Memory> {
     let mut bytes = Bytes::new(alloc);
     bytes.extend(body.as_bytes())?;
     let name = Text::of(alloc, "commit")?;
-    let value = Text::of(alloc, "true")?;
+    let value = Text::of(alloc, commit)?;
     let mut params = Params::new(alloc);
     params.push(Param { name, value })?;
     Ok(Request {
@@ -51,19 +52,36 @@ fn update(alloc: Global, collection: &str, body: &str) -> Result<Request, Memory
     })
 }
 
-/// The answer to one case: `update NAME BODY` is a body of an update, and each other line an
-/// expression, whose tuples are written with a blank between them.
-pub fn answer(alloc: Global, site: &mut PlainSite, case: &str) -> Result<Bytes, Memory> {
-    let outcome = match case.strip_prefix("update ") {
-        Some(rest) => {
-            let (collection, body) = rest.split_once(' ').unwrap_or((rest, ""));
-            let request = update(alloc, collection, body)?;
-            run_request(alloc, site, &request)?
-        }
-        None => match case.strip_prefix("eval ") {
-            Some(text) => run_expression(alloc, site, text.as_bytes(), Roots::Plain)?,
-            None => run_expression(alloc, site, case.as_bytes(), Roots::All)?,
-        },
+// An update, carried out.
+fn run_update<R: Threads + Sync>(
+    alloc: Global,
+    rt: &R,
+    site: &mut PlainSite,
+    commit: &str,
+    rest: &str,
+) -> Result<Outcome, Memory> {
+    let (collection, body) = rest.split_once(' ').unwrap_or((rest, ""));
+    let request = update(alloc, collection, commit, body)?;
+    run_request(alloc, rt, site, &request, &NoGate)
+}
+
+/// The answer to one case: `update NAME BODY` is a body of an update with a commit, `pending NAME BODY`
+/// one without; `eval` and an expression only reads, and each other line is an expression. Tuples are
+/// written with a blank between them, and the text of a fault behind them.
+pub fn answer<R: Threads + Sync>(
+    alloc: Global,
+    rt: &R,
+    site: &mut PlainSite,
+    case: &str,
+) -> Result<Bytes, Memory> {
+    let outcome = if let Some(rest) = case.strip_prefix("update ") {
+        run_update(alloc, rt, site, "true", rest)?
+    } else if let Some(rest) = case.strip_prefix("pending ") {
+        run_update(alloc, rt, site, "false", rest)?
+    } else if let Some(text) = case.strip_prefix("eval ") {
+        run_plain_expression(alloc, rt, site, text.as_bytes(), &NoGate)?
+    } else {
+        run_expression(alloc, rt, site, case.as_bytes(), &NoGate)?
     };
     line_of(alloc, outcome)
 }

@@ -2,33 +2,31 @@
 #![tactic(auto)]
 
 mod case;
+mod sites;
 
 use case::answer;
-use std::alloc::Global;
+use sites::{named, start};
 use std::io::{self, BufRead, BufReader, BufWriter, Write};
-use stream_site::PlainSite;
-use tuple_values::{Memory, NameShards, Names, Text};
 
-/// A shard's counted bytes are at most this.
+/// A shard's counted bytes are at most this, where no case says otherwise.
 const LIMIT: u64 = 1_000_000;
-
-// The collections `c` and `d`, with two shards each.
-fn names(alloc: Global) -> Result<Names, Memory> {
-    let mut names = Names::new(alloc);
-    for name in ["c", "d"] {
-        let name = Text::of(alloc, name)?;
-        names.push(NameShards { name, shards: 2 })?;
-    }
-    Ok(names)
-}
 
 fn main(rt: HostRuntime) -> anyhow::Result<()> {
     let alloc = rt.alloc();
-    let mut site = PlainSite::start(alloc, names(alloc)?, LIMIT)?;
+    let mut site = start(alloc, LIMIT, "c=2 d=2")?;
     let mut out = BufWriter::new(alloc, io::writer(&rt))?;
     for line in BufReader::new(alloc, rt.reader())?.lines(alloc) {
-        let answer = answer(alloc, &mut site, line?.as_str())?;
-        out.write_all(answer.as_slice())?;
+        let line = line?;
+        match line.as_str().strip_prefix("site ") {
+            Some(words) => {
+                site = named(alloc, words)?;
+                out.write_all(b"site")?;
+            }
+            None => {
+                let answer = answer(alloc, &rt, &mut site, line.as_str())?;
+                out.write_all(answer.as_slice())?;
+            }
+        }
         out.write_all(b"\n")?;
     }
     out.flush()?;
