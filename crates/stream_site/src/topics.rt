@@ -1,5 +1,5 @@
 // The calls on topics: the state of one, a Bind and a Store.
-ghost use Rattle.std.specs.Prelude.{◌≡◌, ◌<◌, length, IfOk, Some, None};
+ghost use Rattle.std.specs.Prelude.{◌≡◌, ◌<◌, length, IfOk, OnErr, Some, None};
 ghost use Rattle.topic_book.specs.Books.{binding_of, checkpoints};
 ghost use Rattle.topic_book.specs.Fitness.{IsOnCollections};
 ghost use Rattle.once_core.specs.Allowed.{MayStore};
@@ -228,6 +228,7 @@ fn store_seen_over<T: Turns>(
     ensures course { Passed 0 (T.writer site.old) (T.writer site.new)
         (store_seen (T.layout site.old).names key.now upto
         (book_seen (T.layout site.old) (T.writer site.old))) 0 result }
+    ensures unstored { OnErr result ((T.writer site.new).own ≡ (T.writer site.old).own) }
     ensures layout { T.layout site.new ≡ T.layout site.old }
     ensures home { T.home site.new ≡ T.home site.old }
 {
@@ -254,6 +255,7 @@ fn store_step_over<T: Turns>(
         (histories_in (T.layout site.old).names (T.writer site.old).seen) key.now upto }
     ensures course { Answered (T.writer site.old) (T.writer site.new)
         (store_course (T.layout site.old).names key.now upto) result }
+    ensures unstored { OnErr result ((T.writer site.new).own ≡ (T.writer site.old).own) }
     ensures layout { T.layout site.new ≡ T.layout site.old }
     ensures home { T.home site.new ≡ T.home site.old }
 {
@@ -264,7 +266,8 @@ fn store_step_over<T: Turns>(
 }
 
 /// Stores at one look at the book up to where the topic was delivered; where that raises nothing,
-/// nothing is added. The writer has seen that it was delivered. It has no turn afterwards.
+/// nothing is added. The writer has seen that it was delivered. It has no turn afterwards. After an
+/// `Err` nothing is added.
 pub fn store_topic_over<T: Turns>(
     alloc: Global,
     site: &mut T,
@@ -275,6 +278,7 @@ pub fn store_topic_over<T: Turns>(
         (histories_in (T.layout site.old).names (T.writer site.old).seen) key.now upto }
     ensures course { Answered (T.writer site.old) (T.writer site.new)
         (store_course (T.layout site.old).names key.now upto) result }
+    ensures unstored { OnErr result ((T.writer site.new).own ≡ (T.writer site.old).own) }
     ensures free { T.free site.new }
     ensures layout { T.layout site.new ≡ T.layout site.old }
     ensures home { T.home site.new ≡ T.home site.old }
