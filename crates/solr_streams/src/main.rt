@@ -1,6 +1,8 @@
 //! Streaming expressions over collections of flat documents: the program.
 #![tactic(auto)]
 
+#[cfg(test)]
+mod apart_tests;
 mod ending;
 mod eval;
 mod input;

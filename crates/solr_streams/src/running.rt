@@ -1,6 +1,6 @@
 // Runs in memory, and what they are compared with.
 use crate::run::run_words;
-use io_edge::{MemorySink, MemorySource, NoGate};
+use io_edge::{Gate, MemorySink, MemorySource, NoGate};
 use std::alloc::Global;
 use std::process::Abort;
 use std::test::Fail;
@@ -46,6 +46,18 @@ pub(crate) fn run_on<R: Threads + Sync>(
     bytes: &[u8],
     failing: Failing,
 ) -> Result<Ran, Memory> {
+    run_past(rt, alloc, words, bytes, failing, &NoGate)
+}
+
+// The same past a gate.
+pub(crate) fn run_past<R: Threads + Sync, G: Gate>(
+    rt: &R,
+    alloc: Global,
+    words: &str,
+    bytes: &[u8],
+    failing: Failing,
+    gate: &G,
+) -> Result<Ran, Memory> {
     let (reads, writes) = match failing {
         Failing::Nothing => (None, None),
         Failing::Input(call) => (Some(call), None),
@@ -64,7 +76,7 @@ pub(crate) fn run_on<R: Threads + Sync>(
         &mut input,
         &mut output,
         &mut errors,
-        &NoGate,
+        gate,
     );
     Ok(Ran {
         status,

@@ -108,6 +108,10 @@ pub(crate) const ONE_WORKER: &str =
     "GET /solr/c/stream?expr=parallel(c,rollup(search(c,q%3D%22*:*%22,fl%3D%22g_s,n_i%22,sort%3D%22g_s+asc%22,partitionKeys%3D%22g_s%22),\
      over%3D%22g_s%22,sum(n_i),count(*)),workers%3D1,sort%3D%22g_s+asc%22) HTTP/1.1\r\n\r\n";
 
+pub(crate) const TWO_WORKERS: &str =
+    "GET /solr/c/stream?expr=parallel(c,rollup(search(c,q%3D%22*:*%22,fl%3D%22g_s,n_i%22,sort%3D%22g_s+asc%22,partitionKeys%3D%22g_s%22),\
+     over%3D%22g_s%22,sum(n_i),count(*)),workers%3D2,sort%3D%22g_s+asc%22) HTTP/1.1\r\n\r\n";
+
 pub(crate) const THREE_WORKERS: &str =
     "GET /solr/c/stream?expr=parallel(c,rollup(search(c,q%3D%22*:*%22,fl%3D%22g_s,n_i%22,sort%3D%22g_s+asc%22,partitionKeys%3D%22g_s%22),\
      over%3D%22g_s%22,sum(n_i),count(*)),workers%3D3,sort%3D%22g_s+asc%22) HTTP/1.1\r\n\r\n";
