@@ -1,11 +1,11 @@
 -- What was delivered stands in what was seen of the destination.
-use Rattle.std.proofs.Common.{◌≡◌, ℕ, zero, suc, ◌+◌, ◌-◌, ◌<◌, ◌≤◌, ◌&&◌, Bool, true, false, cond, ltb, List, [], ◌∷◌, ◌++◌, length, get_or, set, take, drop, map, bytes_eq, eq-eqb, refl, sym, ap, ◌∙◌, subst, arith, append_assoc, append-nil, Option, Some, None, Result, Ok, Err, inl, inr}
-use Rattle.std.specs.Prelude.{filter, nat_lt, ◌⊎◌, if◌then◌else◌}
+use Rattle.std.proofs.Common.{◌≡◌, ℕ, zero, suc, ◌+◌, ◌-◌, ◌<◌, ◌≤◌, ◌&&◌, Bool, true, false, cond, ltb, List, [], ◌∷◌, ◌++◌, length, get_or, set, drop, map, bytes_eq, eq-eqb, refl, sym, ap, ◌∙◌, subst, arith, append_assoc, append-nil, Result, Ok, Err, inl, inr}
+use Rattle.std.specs.Prelude.{filter, if◌then◌else◌}
 use Rattle.std.specs.List.{AllByRecursion}
 use Rattle.std.proofs.lemmas.Bool.{cases_eq, ltb-false}
 use Rattle.std.proofs.lemmas.List.{map-append}
 use Rattle.std.proofs.lemmas.Slice.Eq.{bytes_eq-Decides}
-use Rattle.tuple_values.specs.Document.{ByteList, Doc}
+use Rattle.tuple_values.specs.Document.{ByteList}
 use Rattle.tuple_values.specs.Keys.{shard_of}
 use Rattle.tuple_values.specs.declared.names.NameShards.{NameShards}
 use Rattle.shard_versions.specs.Deliveries.{Reaches, admits_kind, admits, admitted, are_below, sent_version, sents}
@@ -21,10 +21,10 @@ use Rattle.shard_versions.proofs.DeliveryLemmas.{reaches-grows, sents-append}
 use Rattle.shard_versions.proofs.ListLemmas.{each_weaker}
 use Rattle.topic_book.specs.Cells.{cell_of, cells_in}
 use Rattle.topic_book.specs.Fitness.{shards_of}
-use Rattle.once_core.specs.Cells.{home_history, shard_history}
+use Rattle.once_core.specs.Cells.{shard_history}
 use Rattle.exchange_rules.specs.Accesses.{Access, at_mark, IsLook, IsOwn}
-use Rattle.exchange_rules.specs.Cells.{Log, history_in, log_of, signed, write}
-use Rattle.exchange_rules.specs.Courses.{Course, ends, looks, makes, and_then, and_ok, unless_refused}
+use Rattle.exchange_rules.specs.Cells.{Log, history_in, signed, write}
+use Rattle.exchange_rules.specs.Courses.{Course, ends, makes, unless_refused}
 use Rattle.exchange_rules.specs.Deliveries.{admitted_kinds, deliver_course, send_admitted, send_at, send_course, send_shards, send_step, sent_kind, sent_kinds, sent_share}
 use Rattle.exchange_rules.specs.Following.{Follows}
 use Rattle.exchange_rules.specs.Rows.{Layout}

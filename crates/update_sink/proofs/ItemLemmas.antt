@@ -1,15 +1,14 @@
 -- What a topic gives of a cut may be delivered by what was seen of its source.
-use Rattle.std.proofs.Common.{◌≡◌, ℕ, zero, suc, ◌+◌, ◌<◌, ◌≤◌, ◌==◌, ◌&&◌, Bool, true, false, cond, List, [], ◌∷◌, ◌++◌, length, get_or, take, drop, map, slice_index, bytes_eq, eqb, eqb-true, refl, sym, ap, ◌∙◌, subst, arith, Option, Some, None}
+use Rattle.std.proofs.Common.{◌≡◌, ℕ, ◌+◌, ◌<◌, ◌≤◌, ◌==◌, Bool, true, false, cond, List, [], ◌∷◌, ◌++◌, length, get_or, take, drop, map, slice_index, bytes_eq, eqb-true, refl, sym, ap, ◌∙◌, subst, arith, Option, Some, None}
 use Rattle.std.specs.Prelude.{filter, if◌then◌else◌}
 use Rattle.std.specs.List.{AllByRecursion}
-use Rattle.std.proofs.lemmas.Slice.Eq.{bytes_eq-Decides}
 use Rattle.tuple_values.specs.Document.{ByteList, Doc, Rises}
 use Rattle.tuple_values.specs.Keys.{shard_of}
 use Rattle.tuple_values.specs.declared.names.NameShards.{NameShards}
 use Rattle.query_syntax.specs.Tree.{ClauseTree}
 use Rattle.sort_spec.specs.Sorting.{insert, ins_from, ins_sort}
 use Rattle.shard_versions.specs.Documents.{id_of, is_storable, with_version, IsFrom}
-use Rattle.shard_versions.specs.Fitness.{is_fit, is_routed, is_storable_kind, AreStorable, IsFit}
+use Rattle.shard_versions.specs.Fitness.{is_fit, is_storable_kind, AreStorable, IsFit}
 use Rattle.shard_versions.specs.Histories.{Ascend, History, Slot, committed, current, last_version, settled, slot_of, slots, slots_after, top, version_after, write_at}
 use Rattle.shard_versions.specs.declared.cut.CutPart.{CutPart}
 use Rattle.shard_versions.specs.declared.entry.Entry.{Entry}
@@ -21,8 +20,7 @@ use Rattle.shard_versions.proofs.VersionLemmas.{ascend_above, last_version-above
 use Rattle.topic_book.specs.Cells.{cell_of, cells_in}
 use Rattle.topic_book.specs.Fitness.{shards_of}
 use Rattle.once_core.specs.Cells.{home_history, shard_history}
-use Rattle.once_core.specs.Law.{IsDelivery, IsFitAt, IsFitCell}
-use Rattle.once_core.specs.declared.world.Histories.{Histories}
+use Rattle.once_core.specs.Law.{IsFitAt, IsFitCell}
 use Rattle.once_core.proofs.CurrentLemmas.{IsLast, current-last, id_with_version}
 use Rattle.once_core.proofs.GrowthLemmas.{delivery_up}
 use Rattle.once_core.proofs.PlaceLemmas.{current-here}
@@ -31,7 +29,7 @@ use Rattle.exchange_rules.specs.Following.{Grows}
 use Rattle.exchange_rules.specs.declared.batch.BatchItem.{BatchItem}
 use Rattle.exchange_rules.proofs.CellLemmas.{cell_of-within}
 use Rattle.exchange_rules.proofs.GrowthLemmas.{grows_at}
-use Rattle.site_laws.specs.Duties.{IsItem, MaySend}
+use Rattle.site_laws.specs.Duties.{IsItem}
 use Rattle.site_laws.specs.SiteCells.{histories_in, AreSeenOf}
 use Rattle.site_laws.proofs.CellLemmas.{seen-grows, shard-at}
 use Rattle.site_laws.proofs.DutyLemmas.{place-named}
@@ -39,7 +37,7 @@ use Rattle.source_streams.specs.Batches.{cut_item, given_names, is_before, is_ne
 use Rattle.source_streams.specs.declared.batch.TopicItem.{TopicItem}
 use Rattle.expr_types.specs.ExprTree.{TopicParts}
 use Rattle.expr_types.specs.Sources.{cut_to}
-use Rattle.update_sink.specs.Given.{AreGiven, IsGiven}
+use Rattle.update_sink.specs.Given.{IsGiven}
 use Rattle.update_sink.specs.Topics.{sent_document, sent_item}
 use Rattle.update_sink.proofs.BeginLemmas.{AreSeenParts, IsSeenCut, IsSeenPart, history-front}
 use Rattle.update_sink.proofs.ShapeLemmas.{sent-from, sent-storable}
@@ -56,7 +54,7 @@ each-passing P p (x ∷ xs) a = go (p x) (each-passing P p xs a.1)
     go false more = more
 
 -- and of what a function makes of each
-each-made : {X Y : Type 0} (P : Y → Type 0) (f : X → Y) (xs : List X)
+pub each-made : {X Y : Type 0} (P : Y → Type 0) (f : X → Y) (xs : List X)
     → AllByRecursion (λ x. P (f x)) xs → AllByRecursion P (map f xs)
 each-made P f [] a = tt
 each-made P f (x ∷ xs) a = (a.0, each-made P f xs a.1)
@@ -78,7 +76,7 @@ each-from P lt done [] d a = d
 each-from P lt done (x ∷ xs) d a =
     each-from P lt (insert lt x done) xs (each-inserted P lt x done a.0 d) a.1
 
-each-sorted : {X : Type 0} (P : X → Type 0) (lt : X → X → Bool) (xs : List X)
+pub each-sorted : {X : Type 0} (P : X → Type 0) (lt : X → X → Bool) (xs : List X)
     → AllByRecursion P xs → AllByRecursion P (ins_sort lt xs)
 each-sorted P lt xs a = each-from P lt [] xs tt a
 

@@ -13,3 +13,6 @@ pub mod DeliverLemmas
 pub mod StoreLemmas
 pub mod SendsLemmas
 pub mod RunLemmas
+pub mod MostLemmas
+pub mod PromiseLemmas
+pub mod KeptLemmas

@@ -1,9 +1,9 @@
 -- A topic's run, part by part.
-use Rattle.std.proofs.Common.{◌≡◌, ◌≢◌, ℕ, zero, suc, ◌+◌, ◌<◌, ◌≤◌, Bool, true, false, List, [], ◌∷◌, bytes_eq, get_or, refl, sym, ap, subst, ◌∙◌, arith, Option, Some, None, Result, Ok, Err}
+use Rattle.std.proofs.Common.{◌≡◌, ◌≢◌, ℕ, zero, suc, ◌+◌, ◌<◌, ◌≤◌, Bool, true, false, List, [], bytes_eq, get_or, refl, sym, ap, subst, ◌∙◌, arith, Option, Some, None, Result, Ok, Err}
 use Rattle.std.specs.Prelude.{◌&&◌, IsSome, if◌then◌else◌, map, option_map, unwrap_or}
 use Rattle.std.specs.Option.{option_or}
 use Rattle.std.proofs.lemmas.Slice.Eq.{bytes_eq-Decides}
-use Rattle.tuple_values.specs.Document.{ByteList, Doc}
+use Rattle.tuple_values.specs.Document.{ByteList}
 use Rattle.tuple_values.specs.declared.names.NameShards.{NameShards}
 use Rattle.query_syntax.specs.Reading.{query_of}
 use Rattle.shard_versions.specs.declared.cut.CutPart.{CutPart}
@@ -21,7 +21,7 @@ use Rattle.exchange_rules.specs.declared.run.TopicRun.{TopicRun}
 use Rattle.exchange_rules.proofs.GrowthLemmas.{grows_join}
 use Rattle.exchange_rules.specs.Calls.{Answered, HasAppended, Stopped}
 use Rattle.exchange_rules.specs.Courses.{Course, ends, and_then, and_ok, unless_refused}
-use Rattle.exchange_rules.specs.Following.{Grows, Writer, Reaches, Answers, Begins}
+use Rattle.exchange_rules.specs.Following.{Grows, Writer, Reaches, Answers}
 use Rattle.exchange_rules.specs.Rows.{Layout}
 use Rattle.exchange_rules.specs.Topics.{Asked, begin_course, binding_for, bound_then, cut_then_store, run_course, sends_course, source_course, stopped_by, topic_course, tops_of}
 use Rattle.exchange_rules.specs.declared.fault.SiteFault.{SiteFault}

@@ -1,25 +1,24 @@
 -- How the run of a topic goes on, batch by batch, and to its store.
-use Rattle.std.proofs.Common.{◌≡◌, ℕ, zero, suc, ◌+◌, ◌<◌, ◌≤◌, ◌⊎◌, List, [], ◌∷◌, ◌++◌, length, map, set, take, drop, Bool, true, false, refl, sym, ap, subst, ◌∙◌, arith, inl, inr, append_assoc, append-nil, Option, Some, None, Result, Ok, Err}
+use Rattle.std.proofs.Common.{◌≡◌, ℕ, zero, suc, ◌<◌, ◌⊎◌, List, [], ◌∷◌, ◌++◌, length, map, set, take, drop, Bool, true, false, refl, sym, ap, subst, ◌∙◌, arith, inl, inr, append_assoc, append-nil, Some, Result, Ok, Err}
 use Rattle.std.specs.Prelude.{IfErr, IfOk, OnOk, if◌then◌else◌}
 use Rattle.std.specs.List.{AllByRecursion}
 use Rattle.std.proofs.lemmas.List.{length-map, map-append, take-append-drop}
-use Rattle.tuple_values.specs.Document.{ByteList, Doc}
+use Rattle.tuple_values.specs.Document.{ByteList}
 use Rattle.tuple_values.specs.Keys.{shard_of}
 use Rattle.tuple_values.specs.declared.names.NameShards.{NameShards}
 use Rattle.shard_versions.specs.Documents.{id_of}
-use Rattle.shard_versions.specs.Histories.{slots, top, write_at}
 use Rattle.shard_versions.proofs.ListLemmas.{each_append, each_left, each_right, each_weaker}
-use Rattle.topic_book.specs.Books.{Book, raises}
+use Rattle.topic_book.specs.Books.{raises}
 use Rattle.topic_book.specs.Cells.{cell_of}
 use Rattle.topic_book.specs.Fitness.{shards_of}
 use Rattle.topic_book.specs.declared.topic.TopicKey.{TopicKey}
 use Rattle.once_core.proofs.GrowthLemmas.{reaches_up, top_up, write_up}
 use Rattle.exchange_rules.specs.Accesses.{Access, a_look, a_step, at_mark}
-use Rattle.exchange_rules.specs.Batches.{Sunk, batches_of, none_sunk, stand_in, told_sunk, with_batch}
+use Rattle.exchange_rules.specs.Batches.{Sunk, batches_of, told_sunk, with_batch}
 use Rattle.exchange_rules.specs.Bindings.{book_cell, store_course, store_seen}
 use Rattle.exchange_rules.specs.Calls.{Answered}
 use Rattle.exchange_rules.specs.Cells.{Log, Payload, book_in, store}
-use Rattle.exchange_rules.specs.Courses.{Course, ends, looks, makes, and_then, and_ok, unless_refused}
+use Rattle.exchange_rules.specs.Courses.{Course, ends, makes, and_then}
 use Rattle.exchange_rules.specs.Deliveries.{send_course}
 use Rattle.exchange_rules.specs.Following.{Follows, Grows, Writer, Reaches, Answers, Begins, counts}
 use Rattle.exchange_rules.specs.Rows.{Layout}
@@ -29,7 +28,6 @@ use Rattle.exchange_rules.specs.declared.batch.Sent.{Sent}
 use Rattle.exchange_rules.specs.declared.fault.SiteFault.{SiteFault}
 use Rattle.exchange_rules.specs.declared.fault.SiteFault.TheVariants.{ShardFull, TopicBound, BookFull, OutOfMemory}
 use Rattle.exchange_rules.specs.declared.run.TopicFault.{TopicFault}
-use Rattle.exchange_rules.specs.declared.run.TopicRun.{TopicRun}
 use Rattle.exchange_rules.proofs.ReachLemmas.{reaches_none, reaches_join, reaches_then}
 use Rattle.site_laws.specs.SiteCells.{histories_in}
 use Rattle.site_laws.proofs.CellLemmas.{seen-grows}
@@ -38,7 +36,7 @@ use Rattle.source_streams.specs.declared.batch.TopicItem.{TopicItem}
 use Rattle.expr_types.specs.Sources.{cut_to}
 use Rattle.update_sink.specs.Given.{AreGiven, AreThereNow, IsGiven, IsThereNow}
 use Rattle.update_sink.specs.Runs.{IsRun, IsStoppedBy}
-use Rattle.update_sink.specs.Sends.{IsSent, IsUnsent, IsWant, Next, finish_course, send_of, told_of, sunk_done}
+use Rattle.update_sink.specs.Sends.{IsSent, IsWant, Next, send_of, told_of, sunk_done}
 use Rattle.update_sink.specs.declared.delivering.Done.{Done}
 use Rattle.update_sink.specs.Topics.{sent_item}
 use Rattle.update_sink.proofs.BatchLemmas.{batches_of-next}

@@ -1,14 +1,14 @@
 -- What is delivered of a document is of it, and can be kept.
-use Rattle.std.proofs.Common.{◌≡◌, ◌≢◌, ℕ, ◌&&◌, ◌||◌, Bool, true, false, cond, List, [], ◌∷◌, ◌++◌, bytes_eq, refl, sym, ap, ◌∙◌, subst, Option, Some, None}
-use Rattle.std.specs.Prelude.{codes, filter, not, pos, is_some, if◌then◌else◌}
+use Rattle.std.proofs.Common.{◌≡◌, ◌≢◌, ℕ, ◌&&◌, ◌||◌, Bool, true, false, cond, List, [], ◌∷◌, bytes_eq, refl, sym, ap, ◌∙◌, subst, Some}
+use Rattle.std.specs.Prelude.{filter, not, pos, is_some, if◌then◌else◌}
 use Rattle.std.specs.List.{AllByRecursion}
 use Rattle.std.specs.declared.cmp.Ordering.{Ordering}
 use Rattle.std.specs.declared.cmp.Ordering.TheVariants.{Less, Equal, Greater}
 use Rattle.std.proofs.lemmas.Slice.Eq.{bytes_eq-Decides}
-use Rattle.tuple_values.specs.Document.{ByteList, bytes_cmp, Datum, long, text, Doc, IsBelow, Rises, is_named, put, put_by, value_at, without}
-use Rattle.tuple_values.proofs.BytesLemmas.{bytes_by, itself, less_back}
+use Rattle.tuple_values.specs.Document.{ByteList, bytes_cmp, Datum, long, text, Doc, Rises, is_named, put, put_by, value_at, without}
+use Rattle.tuple_values.proofs.BytesLemmas.{bytes_by, itself}
 use Rattle.tuple_values.proofs.MapLemmas.{bytes_same, value_cut, value_put, value_put_other, value_without_other}
-use Rattle.shard_versions.specs.Documents.{has_group, id_name, id_of, is_empty, is_group, is_storable, origin_names, reserved_names, source_name, source_version_name, text_of, version_name, with_version, IsCarried, IsFrom, IsFromDocument}
+use Rattle.shard_versions.specs.Documents.{has_group, id_name, id_of, is_empty, is_group, is_storable, origin_names, source_name, source_version_name, text_of, version_name, with_version, IsCarried, IsFrom}
 use Rattle.shard_versions.proofs.ListLemmas.{each_two, each_weaker}
 use Rattle.source_streams.specs.Batches.{given_names}
 use Rattle.expr_types.specs.Sources.{cut_to}

@@ -1,16 +1,16 @@
 -- A topic's checkpoint may be stored once what it gives was delivered.
-use Rattle.std.proofs.Common.{◌≡◌, ◌≢◌, ℕ, zero, suc, ◌+◌, ◌<◌, ◌≤◌, ◌&&◌, Bool, true, false, cond, ltb, List, [], ◌∷◌, ◌++◌, length, get_or, set, take, drop, map, slice_index, bytes_eq, refl, sym, ap, ◌∙◌, subst, arith, Option, Some, None, Result, Ok, Err}
-use Rattle.std.specs.Prelude.{filter, nat_lt, pos, if◌then◌else◌}
+use Rattle.std.proofs.Common.{◌≡◌, ℕ, zero, suc, ◌+◌, ◌<◌, ◌≤◌, ◌&&◌, Bool, true, false, cond, List, [], ◌∷◌, ◌++◌, length, get_or, take, drop, map, slice_index, bytes_eq, refl, sym, ap, ◌∙◌, subst, arith, Some}
+use Rattle.std.specs.Prelude.{filter, pos, if◌then◌else◌}
 use Rattle.std.specs.List.{AllByRecursion}
-use Rattle.std.specs.declared.cmp.Ordering.TheVariants.{Less, Equal, Greater}
+use Rattle.std.specs.declared.cmp.Ordering.TheVariants.{Less, Equal}
 use Rattle.std.proofs.lemmas.Bool.{lt-ltb}
 use Rattle.std.proofs.lemmas.Slice.Eq.{bytes_eq-Decides}
-use Rattle.tuple_values.specs.Document.{ByteList, Doc, long, put, text, value_at, without}
+use Rattle.tuple_values.specs.Document.{ByteList, Doc, long, put, text, without}
 use Rattle.tuple_values.specs.declared.names.NameShards.{NameShards}
 use Rattle.tuple_values.proofs.MapLemmas.{value_cut, value_put_other, value_without_other}
 use Rattle.query_syntax.specs.Matching.{matches}
-use Rattle.query_syntax.specs.Meaning.{IsReadable, may_match, text_matches}
-use Rattle.query_syntax.specs.Reading.{query_of, read_of}
+use Rattle.query_syntax.specs.Meaning.{may_match, text_matches}
+use Rattle.query_syntax.specs.Reading.{query_of}
 use Rattle.query_syntax.specs.Tree.{ClauseTree}
 use Rattle.sort_spec.specs.Sorting.{insert, ins_from, ins_sort}
 use Rattle.shard_versions.specs.Deliveries.{Reaches, sents}
@@ -19,17 +19,15 @@ use Rattle.shard_versions.specs.Histories.{History, current, top}
 use Rattle.shard_versions.specs.declared.cut.CutPart.{CutPart}
 use Rattle.shard_versions.proofs.ListLemmas.{each_left, each_right, each_weaker}
 use Rattle.shard_versions.proofs.VersionLemmas.{current-old, versioned}
-use Rattle.topic_book.specs.Books.{IsAlike, binding_of, checkpoint}
-use Rattle.topic_book.specs.Cells.{cell_of, cells_in}
+use Rattle.topic_book.specs.Books.{checkpoint}
+use Rattle.topic_book.specs.Cells.{cell_of}
 use Rattle.topic_book.specs.Fitness.{shards_of}
 use Rattle.topic_book.specs.declared.topic.Binding.{Binding}
-use Rattle.topic_book.specs.declared.topic.TopicKey.{TopicKey}
 use Rattle.once_core.specs.Allowed.{MayStore}
 use Rattle.once_core.specs.Cells.{home_history, shard_history}
 use Rattle.once_core.specs.Law.{AreSent, IsSent, IsSentIfTaken, takes}
 use Rattle.exchange_rules.specs.Cells.{Log, history_in}
-use Rattle.exchange_rules.specs.Topics.{Asked, binding_for, tops_of}
-use Rattle.exchange_rules.specs.declared.batch.BatchItem.{BatchItem}
+use Rattle.exchange_rules.specs.Topics.{tops_of}
 use Rattle.site_laws.specs.SiteCells.{histories_in}
 use Rattle.source_streams.specs.Batches.{cut_item, given_names, is_before, is_new, item_of, items_in, items_of, new_items, topic_items, whole_batch}
 use Rattle.source_streams.specs.declared.batch.TopicItem.{TopicItem}
@@ -37,7 +35,7 @@ use Rattle.expr_types.specs.ExprTree.{TopicParts}
 use Rattle.expr_types.specs.Sources.{cut_to}
 use Rattle.update_sink.specs.Given.{AreThereNow, IsThereNow}
 use Rattle.update_sink.specs.Topics.{asked_of, sent_document, sent_item}
-use Rattle.update_sink.proofs.BeginLemmas.{AreSeenParts, HasBegun, IsBegun, IsSeenCut, IsSeenPart, cut-reached, history-front, tops-counted}
+use Rattle.update_sink.proofs.BeginLemmas.{AreSeenParts, HasBegun, IsSeenCut, IsSeenPart, cut-reached, history-front, tops-counted}
 use Rattle.update_sink.proofs.ShapeLemmas.{id-given}
 
 -- what holds of all that a function makes holds of what it makes of each

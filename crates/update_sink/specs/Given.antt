@@ -1,5 +1,5 @@
 -- What a writer has seen of what a topic gives, at its source and at its destination (own).
-use Rattle.std.specs.Prelude.{ℕ, ◌≡◌, ◌≤◌, true, List, map, Some}
+use Rattle.std.specs.Prelude.{◌≡◌, ◌≤◌, true, List, map, Some}
 use Rattle.std.specs.List.{AllByRecursion}
 use Rattle.tuple_values.specs.Document.{ByteList, Doc}
 use Rattle.tuple_values.specs.declared.names.NameShards.{NameShards}

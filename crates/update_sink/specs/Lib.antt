@@ -5,3 +5,4 @@ pub mod Runs
 pub mod Asks
 pub mod Given
 pub mod Sends
+pub mod Promises

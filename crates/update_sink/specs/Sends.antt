@@ -1,7 +1,8 @@
 -- What is said of one batch of a topic's run, whatever follows it, and of all of them (own).
-use Rattle.std.specs.Prelude.{ℕ, List, length, map, Result, Ok, Err}
-use Rattle.tuple_values.specs.Document.{ByteList, Doc}
+use Rattle.std.specs.Prelude.{ℕ, ◌≡◌, List, length, map, Result, Ok, Err}
+use Rattle.tuple_values.specs.Document.{ByteList}
 use Rattle.tuple_values.specs.declared.names.NameShards.{NameShards}
+use Rattle.shard_versions.specs.declared.cut.CutPart.{CutPart}
 use Rattle.topic_book.specs.declared.topic.TopicKey.{TopicKey}
 use Rattle.once_core.specs.Allowed.{MayStore}
 use Rattle.exchange_rules.specs.Batches.{Sunk, batches_of, none_sunk}
@@ -20,7 +21,7 @@ use Rattle.exchange_rules.specs.declared.fault.SiteFault.TheVariants.{ShardFull,
 use Rattle.exchange_rules.specs.declared.run.TopicFault.{TopicFault}
 use Rattle.exchange_rules.specs.declared.run.TopicRun.{TopicRun}
 use Rattle.update_sink.specs.Given.{AreThereNow}
-use Rattle.update_sink.specs.Topics.{sent_item}
+use Rattle.update_sink.specs.Topics.{run_at, sent_item}
 use Rattle.update_sink.specs.declared.delivering.Done.{Done}
 
 -- what follows a batch
@@ -75,6 +76,12 @@ finish_course l key dest src size items tops answer =
     and_ok (sends_course l dest src none_sunk (batches_of size (map (sent_item src) items)))
     (λ sunk.
     and_ok (store_course l.names key tops) (λ done. ends (Ok (answer sunk))))
+
+-- what is told of a run over this cut above this checkpoint, when these versions were stored
+pub record IsToldOf (before : List ℕ) (cut : List CutPart) (tops : List ℕ) (run : TopicRun)
+    : Type 0 where
+  pub sunk : Sunk
+  pub is : run ≡ run_at before cut tops sunk
 
 -- once all of the items are there, in whatever more is seen, these versions may be stored
 pub record MayFinish (names : List NameShards) (seen : List Log) (key : TopicKey)

@@ -7,6 +7,7 @@ use Rattle.tuple_values.specs.declared.names.NameShards.{NameShards}
 use Rattle.shard_versions.specs.Documents.{source_name, source_version_name, version_name}
 use Rattle.shard_versions.specs.declared.cut.CutPart.{CutPart}
 use Rattle.topic_book.specs.Fitness.{shards_of}
+use Rattle.topic_book.specs.declared.topic.TopicKey.{TopicKey}
 use Rattle.expr_types.specs.ExprTree.{Operator, search, tuple, select, having, sort, top, unique}
 use Rattle.expr_types.specs.ExprTree.{merge, reduce, rollup, inner_join, left_outer_join, intersect}
 use Rattle.expr_types.specs.ExprTree.{complement, hash_join, outer_hash_join, in_parallel, topic}
@@ -90,10 +91,14 @@ topic_of t = unwrap_or (topic_in_tree t) no_topic
 abbrev pub sink_of : ExprTree → Sink
 sink_of t = unwrap_or (sink_in_tree t) (record { topic = no_topic; dest = []; size = 0 })
 
+-- the key of a topic
+abbrev pub key_of : TopicParts → TopicKey
+key_of p = record { checkpoints = p.checkpoints; id = p.id }
+
 -- what a topic asks for, with this destination, if any
 abbrev pub asked_of : TopicParts → Option ByteList → Asked
 asked_of p dest = record {
-  key = record { checkpoints = p.checkpoints; id = p.id };
+  key = key_of p;
   src = p.collection;
   q = p.q_text;
   fields = p.fl;

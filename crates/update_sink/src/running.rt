@@ -1,5 +1,5 @@
 // Topics that are delivered.
-ghost use Rattle.std.specs.Prelude.{◌≡◌, ◌≢◌, ◌<◌, IsSome, None, Ok, Some};
+ghost use Rattle.std.specs.Prelude.{◌≡◌, ◌≢◌, ◌<◌, IfOk, IsSome, None, Ok, OnErr, OnOk, Some};
 ghost use Rattle.topic_book.specs.Fitness.{shards_of};
 ghost use Rattle.expr_types.specs.ExprTree.{expr_tree};
 ghost use Rattle.expr_types.specs.Planned.{IsPlanned};
@@ -8,10 +8,11 @@ ghost use Rattle.expr_check.specs.Walk.{own_fault};
 ghost use Rattle.exchange_rules.specs.Batches.{none_sunk};
 ghost use Rattle.exchange_rules.specs.Topics.{run_course, stopped_by};
 ghost use Rattle.update_sink.specs.Asks.{asked_by};
-ghost use Rattle.update_sink.specs.Given.{AreGiven};
+ghost use Rattle.update_sink.specs.Given.{AreGiven, AreThereNow};
+ghost use Rattle.update_sink.specs.Promises.{HasReached, IsKept, IsRunAlone, IsUnstored};
 ghost use Rattle.update_sink.specs.Runs.{IsRun};
-ghost use Rattle.update_sink.specs.Sends.{MayFinish, finish_course};
-ghost use Rattle.update_sink.specs.Topics.{asked_of, batches_over, run_at, run_of, sink_in_tree, sink_of, topic_in_tree, topic_of, IsSinkThere, IsThere};
+ghost use Rattle.update_sink.specs.Sends.{IsToldOf, MayFinish, finish_course};
+ghost use Rattle.update_sink.specs.Topics.{asked_of, batches_over, key_of, run_at, run_of, sink_in_tree, sink_of, topic_in_tree, topic_of, IsSinkThere, IsThere};
 
 use crate::asking::{Ask, ask_of};
 use crate::delivering::deliver_all;
@@ -60,6 +61,12 @@ fn finish<T: Turns, G: Gate>(
     ensures course { IsRun (T.writer site.old) (T.writer site.new)
         (finish_course (T.layout site.old) ask.now.key dest.now ask.now.src size taken.items
         taken.tops (run_at before taken.cut taken.tops)) result }
+    ensures told { IfOk result (λ run. IsToldOf before taken.cut taken.tops run) }
+    ensures there { OnOk result (AreThereNow (T.layout site.old).names (T.writer site.new).seen
+        dest.now ask.now.src taken.items) }
+    ensures reached { OnOk result (HasReached (T.layout site.old).names (T.writer site.new).seen
+        ask.now.key taken.tops) }
+    ensures unstored { OnErr result (IsUnstored (T.writer site.old) (T.writer site.new)) }
     ensures layout { T.layout site.new ≡ T.layout site.old }
     ensures home { T.home site.new ≡ T.home site.old }
 {
@@ -110,6 +117,12 @@ fn run_expr<T: Turns, G: Gate>(
           dest = dest.now;
           size = size;
         })) run_of) result }
+    ensures kept { IfOk result (IsKept (T.layout site.old) (T.writer site.new) (record {
+      topic = topic_of (expr_tree topic.now);
+      dest = dest.now;
+      size = size;
+    })) }
+    ensures unstored { OnErr result (IsUnstored (T.writer site.old) (T.writer site.new)) }
     ensures layout { T.layout site.new ≡ T.layout site.old }
     ensures home { T.home site.new ≡ T.home site.old }
 {
@@ -188,6 +201,9 @@ fn run_sink<T: Turns, G: Gate>(
         (Some (sink_of (expr_tree update.now)).dest))
         (sink_of (expr_tree update.now)).dest (batches_over (sink_of (expr_tree update.now))) run_of)
         result }
+    ensures kept { IfOk result (IsKept (T.layout site.old) (T.writer site.new)
+        (sink_of (expr_tree update.now))) }
+    ensures unstored { OnErr result (IsUnstored (T.writer site.old) (T.writer site.new)) }
     ensures layout { T.layout site.new ≡ T.layout site.old }
     ensures home { T.home site.new ≡ T.home site.old }
 {
@@ -215,6 +231,17 @@ pub fn run_topic<T: Turns, G: Gate>(
         (asked_of (sink_of (tree_of checked.now)).topic (Some (sink_of (tree_of checked.now)).dest))
         (sink_of (tree_of checked.now)).dest (batches_over (sink_of (tree_of checked.now))) run_of)
         result }
+
+    // What the topic gives of the cut is above the checkpoint that was read, and stands in the
+    // destination in its version or a later one; the topic's checkpoint has reached the cut's tops.
+    ensures kept { IfOk result (IsKept (T.layout site.old) (T.writer site.new)
+        (sink_of (tree_of checked.now))) }
+
+    // The writer appended at most one Bind and one Store of the topic, and else documents of its
+    // source and Marks; after an `Err` it stored nothing.
+    ensures alone { IsRunAlone (key_of (sink_of (tree_of checked.now)).topic)
+        (sink_of (tree_of checked.now)).topic.collection (T.writer site.old) (T.writer site.new) }
+    ensures unstored { OnErr result (IsUnstored (T.writer site.old) (T.writer site.new)) }
     ensures free { T.free site.new }
     ensures layout { T.layout site.new ≡ T.layout site.old }
     ensures home { T.home site.new ≡ T.home site.old }

@@ -1,5 +1,4 @@
-use Rattle.std.proofs.Common.{◌≡◌, ◌<◌, ◌++◌, [], length, map, take, drop, refl, sym, ap, ◌∙◌, subst, arith}
-use Rattle.std.specs.Prelude.{Ok, Err, List}
+use Rattle.std.proofs.Common.{◌≡◌, ◌<◌, ◌++◌, [], length, map, take, refl, sym, ap, ◌∙◌, subst, arith}
 use Rattle.std.proofs.lemmas.Grind.{common_steps}
 use Rattle.topic_book.specs.Fitness.{shards_of}
 use Rattle.exchange_rules.specs.Batches.{batches_of, none_sunk}
@@ -7,10 +6,9 @@ use Rattle.exchange_rules.specs.Following.{Reaches}
 use Rattle.exchange_rules.specs.Rows.{Layout}
 use Rattle.exchange_rules.specs.Topics.{sends_course}
 use Rattle.exchange_rules.proofs.ReachLemmas.{reaches_none}
-use Rattle.source_streams.specs.declared.batch.TopicItem.{TopicItem}
 use Rattle.update_sink.specs.Given.{AreGiven, AreThereNow}
 use Rattle.update_sink.specs.Progresses.{sunk_of}
-use Rattle.update_sink.specs.Sends.{IsSent, send_of}
+use Rattle.update_sink.specs.Sends.{send_of}
 use Rattle.update_sink.specs.Topics.{sent_item}
 use Rattle.update_sink.proofs.SendsLemmas.{batch-sent, batch-unsent, done-run, given-drop, given-later, given-take, sent-grown, there-all, there-later, there-more, whole-more}
 use Rattle.update_sink.proofs.delivering.deliver_all.Goals as goal

@@ -1,15 +1,14 @@
-use Rattle.std.proofs.Common.{◌≡◌, length, map, refl, sym, ap, ◌∙◌, subst}
-use Rattle.std.specs.Prelude.{Ok, Err, List}
+use Rattle.std.proofs.Common.{◌≡◌, length, map, sym, ap, ◌∙◌, subst}
+use Rattle.std.specs.Prelude.{Ok, List}
 use Rattle.std.specs.List.{AllByRecursion}
 use Rattle.std.proofs.lemmas.List.{length-map}
 use Rattle.exchange_rules.specs.Batches.{with_batch}
-use Rattle.exchange_rules.specs.Calls.{Answered}
 use Rattle.exchange_rules.specs.Deliveries.{send_course}
 use Rattle.exchange_rules.specs.Following.{Answers, counts}
 use Rattle.exchange_rules.specs.declared.batch.BatchItem.{BatchItem}
-use Rattle.site_laws.specs.Duties.{IsItem, MaySend}
+use Rattle.site_laws.specs.Duties.{IsItem}
 use Rattle.stream_site.proofs.TestLemmas.{handed_on}
-use Rattle.update_sink.specs.Given.{AreThereNow, IsThereNow}
+use Rattle.update_sink.specs.Given.{IsThereNow}
 use Rattle.update_sink.specs.Progresses.{sunk_of}
 use Rattle.update_sink.specs.Sends.{IsSent, send_of}
 use Rattle.update_sink.specs.Topics.{sent_item}

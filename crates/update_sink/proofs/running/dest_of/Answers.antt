@@ -1,12 +1,10 @@
-use Rattle.std.proofs.Common.{◌≡◌, ◌≢◌, sym, ap, ◌∙◌, subst}
-use Rattle.std.specs.Prelude.{IsSome, None}
+use Rattle.std.proofs.Common.{◌≡◌, sym, ap, ◌∙◌, subst}
+use Rattle.std.specs.Prelude.{IsSome}
 use Rattle.expr_types.specs.ExprTree.{ExprTree, an_expr, expr_step, expr_tree, no_exprs, node, update}
-use Rattle.expr_types.specs.Planned.{IsPlanned}
 use Rattle.expr_types.specs.declared.expr.Expr.TheVariants as expr
 use Rattle.expr_types.specs.declared.expr.Expr.TheFolds.{fold-roll-Expr}
 use Rattle.expr_types.specs.declared.expr.Expr.TheOpen.{Expr-F}
-use Rattle.expr_check.specs.Walk.{own_fault}
-use Rattle.update_sink.specs.Topics.{Sink, sink_in_tree, sink_of, topic_in_tree, topic_of}
+use Rattle.update_sink.specs.Topics.{Sink, sink_in_tree, sink_of}
 use Rattle.update_sink.proofs.RunLemmas.{sink-is, sink-some}
 use Rattle.update_sink.proofs.running.dest_of.Goals as goal
 

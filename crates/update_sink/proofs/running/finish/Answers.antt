@@ -1,17 +1,23 @@
-use Rattle.std.proofs.Common.{refl, sym, ap, ◌∙◌, subst}
-use Rattle.std.specs.Prelude.{Ok, Err, List, ℕ}
+use Rattle.std.proofs.Common.{refl, sym, ap, subst}
+use Rattle.std.specs.Prelude.{map, OnErr}
+use Rattle.exchange_rules.specs.Batches.{batches_of, none_sunk}
 use Rattle.exchange_rules.specs.Rows.{Layout}
+use Rattle.exchange_rules.specs.Topics.{sends_course}
 use Rattle.exchange_rules.specs.declared.run.TopicFault.{TopicFault}
 use Rattle.exchange_rules.specs.declared.run.TopicRun.{TopicRun}
 use Rattle.stream_site.proofs.TestLemmas.{handed_on}
-use Rattle.source_streams.specs.declared.batch.TopicItem.{TopicItem}
 use Rattle.once_core.specs.Allowed.{MayStore}
 use Rattle.site_laws.specs.SiteCells.{histories_in}
 use Rattle.update_sink.specs.Given.{AreThereNow}
+use Rattle.update_sink.specs.Promises as promised
+use Rattle.update_sink.specs.Promises.{IsUnstored}
 use Rattle.update_sink.specs.Runs.{IsRun}
 use Rattle.update_sink.specs.Sends.{finish_course, sunk_done}
-use Rattle.update_sink.specs.Topics.{run_at}
+use Rattle.update_sink.specs.Topics.{run_at, sent_item}
 use Rattle.exchange_rules.specs.Batches.{Sunk}
+use Rattle.update_sink.proofs.KeptLemmas.{refused-reached}
+use Rattle.update_sink.proofs.PromiseLemmas.{stopped-run, sends-unstored, store-reaches, unstored-only, unstored-same, unstored-then}
+use Rattle.update_sink.proofs.SendsLemmas.{there-later}
 use Rattle.update_sink.proofs.RunLemmas.{finished, undelivered, unfinished, unstarted}
 use Rattle.update_sink.proofs.running.finish.Goals as goal
 
@@ -86,3 +92,64 @@ store_topic_over-requires g c =
     subst (λ (x : Layout). MayStore x.names (histories_in x.names mid.seen) key c.in-Ok.upto)
     (sym c.in_ok-done.ensures.layout)
     (subst (MayStore l.names (histories_in l.names mid.seen) key) (sym c.in-Ok.ensures) may)
+
+pub returns-in-Ok-store_topic_over-clause-told : goal.returns-in-Ok-store_topic_over-clause-told
+returns-in-Ok-store_topic_over-clause-told g c =
+    record { sunk = sunk_done c.in_ok-done.done; is = refl }
+
+pub returns-in-Ok-store_topic_over-clause-there : goal.returns-in-Ok-store_topic_over-clause-there
+returns-in-Ok-store_topic_over-clause-there g c =
+    let l = g.T.Turns.layout c.args.site.now in
+    let mid = g.T.Turns.writer c.deliver_all.new.site in
+    let new = g.T.Turns.writer c.store_topic_over.new.site in
+    there-later l.names mid.seen new.seen c.args.dest.now c.args.ask.now.src c.args.taken.items
+    c.in-Ok-store_topic_over.ensures.course.grown
+    (subst (AreThereNow l.names mid.seen c.args.dest.now c.args.ask.now.src) c.as_slice.ensures
+    c.in_ok-done.ensures.there)
+
+pub returns-in-Ok-store_topic_over-clause-reached
+    : goal.returns-in-Ok-store_topic_over-clause-reached
+returns-in-Ok-store_topic_over-clause-reached g c =
+    let l = g.T.Turns.layout c.args.site.now in
+    let there = g.T.Turns.layout c.deliver_all.new.site in
+    let mid = g.T.Turns.writer c.deliver_all.new.site in
+    let new = g.T.Turns.writer c.store_topic_over.new.site in
+    let key = c.args.ask.now.key in
+    let reached : promised.HasReached there.names new.seen key c.in-Ok.upto =
+    store-reaches mid new there.names key c.in-Ok.upto c.in-Ok-store_topic_over.ensures.course in
+    subst (promised.HasReached l.names new.seen key) c.in-Ok.ensures
+    (subst (λ (x : Layout). promised.HasReached x.names new.seen key c.in-Ok.upto)
+    c.in_ok-done.ensures.layout reached)
+
+pub returns-in_err-done-clause-unstored : goal.returns-in_err-done-clause-unstored
+returns-in_err-done-clause-unstored g c =
+    let l = g.T.Turns.layout c.args.site.now in
+    let w = g.T.Turns.writer c.args.site.now in
+    let mid = g.T.Turns.writer c.deliver_all.new.site in
+    let dest = c.args.dest.now in
+    let src = c.args.ask.now.src in
+    let batches = batches_of c.args.size (map (sent_item src) c.as_slice.result.now) in
+    let course = sends_course l dest src none_sunk batches in
+    let h = stopped-run w mid course _ c.in_err-done.ensures.course in
+    handed_on (λ r. OnErr r (IsUnstored w mid)) _ _ c.from_residual.ensures.1
+    (unstored-only w mid course h.rest h.reached (sends-unstored l dest src batches))
+
+pub returns-in-Err-store_topic_over-clause-unstored
+    : goal.returns-in-Err-store_topic_over-clause-unstored
+returns-in-Err-store_topic_over-clause-unstored g c =
+    let l = g.T.Turns.layout c.args.site.now in
+    let w = g.T.Turns.writer c.args.site.now in
+    let mid = g.T.Turns.writer c.deliver_all.new.site in
+    let new = g.T.Turns.writer c.store_topic_over.new.site in
+    let dest = c.args.dest.now in
+    let src = c.args.ask.now.src in
+    let batches = batches_of c.args.size (map (sent_item src) c.as_slice.result.now) in
+    let h = refused-reached mid new _ c.in-Err-store_topic_over.fault
+    c.in-Err-store_topic_over.ensures.course in
+    unstored-then w mid new (sends_course l dest src none_sunk batches) _
+    c.in_ok-done.ensures.course (sends-unstored l dest src batches) h.reached.grown
+    (unstored-same mid new c.in-Err-store_topic_over.ensures.unstored)
+
+pub returns-in-Err-clause-unstored : goal.returns-in-Err-clause-unstored
+returns-in-Err-clause-unstored g c =
+    let w = g.T.Turns.writer c.args.site.now in unstored-same w w refl

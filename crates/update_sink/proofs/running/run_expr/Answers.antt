@@ -1,12 +1,13 @@
-use Rattle.std.proofs.Common.{refl, sym, ap, ◌∙◌, subst}
+use Rattle.std.proofs.Common.{refl, sym, ◌∙◌, subst}
 use Rattle.query_syntax.specs.Meaning.{IsReadable}
-use Rattle.topic_book.specs.Fitness.{shards_of, IsFitDestination}
-use Rattle.exchange_rules.specs.Rows.{Layout}
+use Rattle.topic_book.specs.Fitness.{IsFitDestination}
 use Rattle.exchange_rules.specs.Topics.{Asked}
 use Rattle.expr_types.specs.ExprTree.{expr_tree}
 use Rattle.update_sink.specs.Asks.{asked_by}
 use Rattle.update_sink.specs.Topics.{topic_of}
 use Rattle.update_sink.proofs.ReadLemmas.{text-readable, text-says, topic-is}
+use Rattle.update_sink.proofs.KeptLemmas.{run-kept, unbegun-unstored, uncut-unstored, whole-unstored}
+use Rattle.update_sink.proofs.PromiseLemmas.{unstored-same}
 use Rattle.update_sink.proofs.RunLemmas.{run-done, run-given, run-may, run-unasked, run-unbegun, run-uncut}
 use Rattle.update_sink.proofs.running.run_expr.Goals as goal
 
@@ -109,3 +110,43 @@ returns-clause-course g c =
     c.in-Ok-take_source.taken.items c.in-Ok-take_source.taken.tops
     c.in-Ok-take_source.ensures.items c.in-Ok-take_source.ensures.tops
     (g.T.Turns.writer c.finish.new.site) c.finish.result c.finish.ensures.course
+
+pub returns-in-Err-clause-unstored : goal.returns-in-Err-clause-unstored
+returns-in-Err-clause-unstored g c =
+    let w = g.T.Turns.writer c.args.site.now in unstored-same w w refl
+
+pub returns-in-Err-begin_topic-clause-unstored : goal.returns-in-Err-begin_topic-clause-unstored
+returns-in-Err-begin_topic-clause-unstored g c =
+    unbegun-unstored (g.T.Turns.writer c.args.site.now) (g.T.Turns.writer c.begin_topic.new.site)
+    (g.T.Turns.layout c.args.site.now) (asked_by c.in-Ok.ask) c.in-Err-begin_topic.fault
+    c.in-Err-begin_topic.ensures.course
+
+pub returns-in-Err-take_source-clause-unstored : goal.returns-in-Err-take_source-clause-unstored
+returns-in-Err-take_source-clause-unstored g c =
+    let t = asked_by c.in-Ok.ask in
+    uncut-unstored (g.T.Turns.writer c.args.site.now) (g.T.Turns.writer c.begin_topic.new.site)
+    (g.T.Turns.layout c.args.site.now) t c.in-Ok-begin_topic.before
+    c.in-Ok-begin_topic.ensures.course (g.T.Turns.writer c.take_source.new.site)
+    (g.T.Turns.layout c.begin_topic.new.site) t.src c.in-Err-take_source.fault
+    c.in-Err-take_source.ensures.course
+
+pub returns-clause-unstored : goal.returns-clause-unstored
+returns-clause-unstored g c =
+    let t = asked_by c.in-Ok.ask in
+    whole-unstored (g.T.Turns.writer c.args.site.now) (g.T.Turns.writer c.begin_topic.new.site)
+    (g.T.Turns.layout c.args.site.now) t c.in-Ok-begin_topic.before
+    c.in-Ok-begin_topic.ensures.course (g.T.Turns.writer c.take_source.new.site)
+    (g.T.Turns.writer c.finish.new.site) (g.T.Turns.layout c.begin_topic.new.site) t.src
+    c.in-Ok-take_source.taken.cut _ c.finish.result c.in-Ok-take_source.ensures.course
+    c.finish.ensures.course c.finish.ensures.unstored
+
+pub returns-clause-kept : goal.returns-clause-kept
+returns-clause-kept g c =
+    let p = topic_of (expr_tree c.args.topic.now) in
+    run-kept (g.T.Turns.layout c.args.site.now) (g.T.Turns.layout c.take_source.new.site) p
+    c.args.dest.now c.args.size (asked_by c.in-Ok.ask) c.in-Ok-begin_topic.before
+    c.in-Ok-take_source.taken.cut c.in-Ok-take_source.taken.items c.in-Ok-take_source.taken.tops
+    (g.T.Turns.writer c.finish.new.site) c.finish.result
+    (c.in-Ok-take_source.ensures.layout ∙ c.in-Ok-begin_topic.ensures.layout) c.in-Ok.ensures
+    c.in-Ok-take_source.ensures.items c.in-Ok-take_source.ensures.tops c.finish.ensures.told
+    c.finish.ensures.there c.finish.ensures.reached

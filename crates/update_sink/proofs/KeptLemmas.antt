@@ -1,0 +1,115 @@
+-- What a run keeps of its promise, by what was done of its cut.
+use Rattle.std.proofs.Common.{◌≡◌, ℕ, List, sym, subst, Some, Result, Ok, Err}
+use Rattle.std.specs.Prelude.{IfOk, OnErr, OnOk}
+use Rattle.tuple_values.specs.Document.{ByteList}
+use Rattle.shard_versions.specs.declared.cut.CutPart.{CutPart}
+use Rattle.exchange_rules.specs.Calls.{Answered, HasAppended, Stopped}
+use Rattle.exchange_rules.specs.Courses.{Course, ends}
+use Rattle.exchange_rules.specs.Following.{Writer, Answers}
+use Rattle.exchange_rules.specs.Rows.{Layout}
+use Rattle.exchange_rules.specs.Topics.{Asked, begin_course, source_course, tops_of}
+use Rattle.exchange_rules.specs.declared.fault.SiteFault.{SiteFault}
+use Rattle.exchange_rules.specs.declared.fault.SiteFault.TheVariants.{ShardFull, TopicBound, BookFull, OutOfMemory}
+use Rattle.exchange_rules.specs.declared.run.TopicFault.{TopicFault}
+use Rattle.exchange_rules.specs.declared.run.TopicRun.{TopicRun}
+use Rattle.exchange_rules.proofs.GrowthLemmas.{grows_join}
+use Rattle.source_streams.specs.Batches.{topic_items}
+use Rattle.source_streams.specs.declared.batch.TopicItem.{TopicItem}
+use Rattle.expr_types.specs.ExprTree.{TopicParts}
+use Rattle.update_sink.specs.Given.{AreThereNow}
+use Rattle.update_sink.specs.Promises as promised
+use Rattle.update_sink.specs.Promises.{IsKept, IsUnstored}
+use Rattle.update_sink.specs.Runs.{IsRun}
+use Rattle.update_sink.specs.Sends.{IsToldOf}
+use Rattle.update_sink.specs.Topics.{Sink, asked_of, run_at}
+use Rattle.update_sink.proofs.PromiseLemmas.{HasReached, begin-unstored, run-reached, source-unstored, topic-above, unstored-only, unstored-then}
+
+-- what follows from what holds of an error holds of it
+pub on-err : {A E : Type 0} (P Q : Type 0) (r : Result A E) → (P → Q) → OnErr r P → OnErr r Q
+on-err P Q (Ok a) f p = tt
+on-err P Q (Err e) f p = f p
+
+-- a call came somewhere in its course
+pub refused-reached : {A : Type 0} (old new : Writer) (course : Course (Result A SiteFault))
+    (fault : SiteFault) → Answered old new course (Err fault) → HasReached old new course
+refused-reached old new course (ShardFull c s n) a =
+    record { rest = ends (Err (ShardFull c s n)); reached = a }
+refused-reached old new course (TopicBound kept) a =
+    record { rest = ends (Err (TopicBound kept)); reached = a }
+refused-reached old new course (BookFull topics) a =
+    record { rest = ends (Err (BookFull topics)); reached = a }
+refused-reached old new course (OutOfMemory stand) a =
+    record { rest = a.rest; reached = a.stood.reached }
+
+-- so did one that only looks
+pub stopped-reached : {A : Type 0} (old new : Writer) (course : Course A) (fault : SiteFault)
+    → Stopped old new course fault → HasReached old new course
+stopped-reached old new course (ShardFull c s n) a = absurd a
+stopped-reached old new course (TopicBound kept) a = absurd a
+stopped-reached old new course (BookFull topics) a = absurd a
+stopped-reached old new course (OutOfMemory stand) a =
+    record { rest = a.rest; reached = a.stood.reached }
+
+-- a topic that didn't begin stored nothing
+pub unbegun-unstored : (old new : Writer) (l : Layout) (t : Asked) (fault : SiteFault)
+    → Answered old new (begin_course l.names t) (Err fault) → IsUnstored old new
+unbegun-unstored old new l t fault a =
+    let h = refused-reached old new (begin_course l.names t) fault a in
+    unstored-only old new (begin_course l.names t) h.rest h.reached (begin-unstored l.names t)
+
+module _ (old mid : Writer) (l : Layout) (t : Asked) (before : List ℕ)
+    (a : Answers old mid (begin_course l.names t) (Ok before)) where
+  -- nor one whose source couldn't be read
+  pub uncut-unstored : (new : Writer) (l1 : Layout) (src : ByteList) (fault : SiteFault)
+      → Stopped mid new (source_course l1.names src) fault → IsUnstored old new
+  uncut-unstored new l1 src fault s =
+      let h = stopped-reached mid new (source_course l1.names src) fault s in
+      unstored-then old mid new (begin_course l.names t) (ends (Ok before)) a
+      (begin-unstored l.names t) h.reached.grown
+      (unstored-only mid new (source_course l1.names src) h.rest h.reached
+      (source-unstored l1.names src))
+
+  -- nor one whose deliveries and store stored nothing
+  pub whole-unstored : (cutting new : Writer) (l1 : Layout) (src : ByteList) (cut : List CutPart)
+      (course : Course (Result TopicRun TopicFault)) (r : Result TopicRun TopicFault)
+      → HasAppended mid cutting (source_course l1.names src) (ends cut) 0
+      → IsRun cutting new course r → OnErr r (IsUnstored cutting new)
+      → OnErr r (IsUnstored old new)
+  whole-unstored cutting new l1 src cut course r c run u =
+      let h = run-reached cutting new course r run in
+      on-err (IsUnstored cutting new) (IsUnstored old new) r (λ x.
+      unstored-then old mid new (begin_course l.names t) (ends (Ok before)) a
+      (begin-unstored l.names t)
+      (grows_join mid.seen cutting.seen new.seen c.reached.grown h.reached.grown)
+      (unstored-then mid cutting new (source_course l1.names src) (ends cut) c.reached
+      (source-unstored l1.names src) h.reached.grown x)) u
+
+-- what a run keeps, by what was delivered and stored of its cut
+pub run-kept : (l there : Layout) (p : TopicParts) (dest : ByteList) (size : ℕ) (t : Asked)
+    (before : List ℕ) (cut : List CutPart) (items : List TopicItem) (tops : List ℕ) (new : Writer)
+    (r : Result TopicRun TopicFault) → there ≡ l → t ≡ asked_of p (Some dest)
+    → items ≡ topic_items p cut before → tops ≡ tops_of cut
+    → IfOk r (λ run. IsToldOf before cut tops run)
+    → OnOk r (AreThereNow there.names new.seen dest t.src items)
+    → OnOk r (promised.HasReached there.names new.seen t.key tops)
+    → IfOk r (IsKept l new (record { topic = p; dest = dest; size = size }))
+run-kept l there p dest size t before cut items tops new (Err x) here is given stored told a b = tt
+run-kept l there p dest size t before cut items tops new (Ok run) here is given stored told a b =
+    let s : Sink = record { topic = p; dest = dest; size = size } in
+    let a1 = subst (λ (x : Layout). AreThereNow x.names new.seen dest t.src items) here a in
+    let a2 = subst (λ (x : Asked). AreThereNow l.names new.seen dest x.src items) is a1 in
+    let a3 = subst (AreThereNow l.names new.seen dest p.collection) given a2 in
+    let b1 = subst (λ (x : Layout). promised.HasReached x.names new.seen t.key tops) here b in
+    let b2 = subst (λ (x : Asked). promised.HasReached l.names new.seen x.key tops) is b1 in
+    let kept : IsKept l new s (run_at before cut tops told.sunk) = record {
+      above = topic-above p cut before;
+      there = a3;
+      tops = stored;
+      reached = b2;
+    } in
+    subst (IsKept l new s) (sym told.is) kept
+
+-- the same of an expression, by what it is
+pub kept-at : (l : Layout) (new : Writer) (s u : Sink) (r : Result TopicRun TopicFault) → s ≡ u
+    → IfOk r (IsKept l new u) → IfOk r (IsKept l new s)
+kept-at l new s u r e k = subst (λ (x : Sink). IfOk r (IsKept l new x)) (sym e) k
