@@ -1,14 +1,14 @@
 -- How what is carried out in parts is carried out whole.
-use Rattle.std.proofs.Common.{◌≡◌, refl, sym, ap, subst, ◌∙◌}
-use Rattle.std.specs.Prelude.{ℕ, Result, Ok, Err, IfOk}
-use Rattle.exchange_rules.specs.Calls.{Answered, Carried, Ended, IsEnded, Stopped}
+use Rattle.std.proofs.Common.{◌≡◌, sym, ap, subst, ◌∙◌}
+use Rattle.std.specs.Prelude.{Result, Ok, Err, IfOk}
+use Rattle.exchange_rules.specs.Calls.{Answered, Carried, Ended, Stopped}
 use Rattle.exchange_rules.specs.Courses.{Course, ends, and_then}
 use Rattle.exchange_rules.specs.Following.{Writer, Reaches, Answers, Begins}
 use Rattle.exchange_rules.specs.declared.fault.SiteFault.{SiteFault}
 use Rattle.exchange_rules.specs.declared.fault.SiteFault.TheVariants.{ShardFull, TopicBound, BookFull, OutOfMemory}
 use Rattle.exchange_rules.specs.declared.run.TopicFault.{TopicFault}
 use Rattle.tuple_values.specs.declared.memory.Memory.{Memory}
-use Rattle.update_sink.specs.Runs.{IsRun, IsStoppedBy}
+use Rattle.update_sink.specs.Runs.{IsStoppedBy}
 use Rattle.root_runs.specs.Texts.{Told}
 use Rattle.exchange_rules.proofs.ReachLemmas.{reaches_none, reaches_then, reaches_join}
 

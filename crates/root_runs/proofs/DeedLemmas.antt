@@ -1,7 +1,7 @@
 -- What is known of an expression by what its function does.
-use Rattle.std.proofs.Common.{◌≡◌, ℕ, ◌<◌, ◌≤◌, ◌&&◌, true, refl, sym, ap, subst, ◌∙◌, length}
+use Rattle.std.proofs.Common.{◌≡◌, ℕ, ◌<◌, true, refl, sym, ap, subst, length}
 use Rattle.std.proofs.lemmas.Bool.{and_parts, leb-true}
-use Rattle.std.specs.Prelude.{Bool, Option, Some, None, IsSome, nat_le, option_map, ◌==◌}
+use Rattle.std.specs.Prelude.{Option, Some, IsSome, nat_le, option_map, ◌==◌}
 use Rattle.tuple_values.specs.Document.{ByteList}
 use Rattle.expr_types.specs.ExprTree.{Operator, search, tuple, select, having, sort, top, unique}
 use Rattle.expr_types.specs.ExprTree.{merge, reduce, rollup, inner_join, left_outer_join, intersect}
@@ -9,11 +9,11 @@ use Rattle.expr_types.specs.ExprTree.{complement, hash_join, outer_hash_join, in
 use Rattle.expr_types.specs.ExprTree.{update, commit, daemon, TopicParts}
 use Rattle.expr_types.specs.ExprTree.{ExprTree, node, ExprTrees, no_exprs, an_expr, operator_in, expr_list}
 use Rattle.expr_types.specs.Limits.{batch_limit, is_between}
-use Rattle.expr_types.specs.Planned.{AreWell, IsPlanned}
+use Rattle.expr_types.specs.Planned.{IsPlanned}
 use Rattle.expr_types.specs.Rules.{is_well}
 use Rattle.expr_check.specs.Parts.{first_tree, input_of}
-use Rattle.update_sink.specs.Topics.{Sink, first_topic, sink_at, sink_in_tree, topic_at, topic_in_tree}
-use Rattle.root_runs.specs.Deeds.{Deed, deed_of, reads, follows, writes, commits, repeats}
+use Rattle.update_sink.specs.Topics.{Sink, sink_at, sink_in_tree, topic_at, topic_in_tree}
+use Rattle.root_runs.specs.Deeds.{deed_of, follows, writes}
 
 -- a topic with these names
 pub record IsTopic (op : Operator) (checkpoints src id : ByteList) : Type 0 where

@@ -1,5 +1,5 @@
 -- What expressions do looks first, and what is done where collections are there.
-use Rattle.std.proofs.Common.{◌≡◌, ℕ, List, [], length, true, false, refl, sym, ap, subst, ◌∙◌}
+use Rattle.std.proofs.Common.{◌≡◌, ℕ, List, [], length, true, false, refl, sym, ap, subst}
 use Rattle.std.specs.Prelude.{Bool, Option, Some, None, is_some, Result, Ok, Err, IfOk, nat_lt, if◌then◌else◌}
 use Rattle.tuple_values.specs.Document.{ByteList, Doc}
 use Rattle.tuple_values.specs.declared.memory.Memory.{Memory}
@@ -31,7 +31,7 @@ use Rattle.root_runs.specs.Texts.{Told}
 use Rattle.root_runs.specs.Lists.{list_over}
 use Rattle.root_runs.proofs.CarriedLemmas.{answered_with, carried_on, ended_with, first_answered, first_begun, nothing_asked, of_same}
 use Rattle.root_runs.specs.Laws.{RootsLookFirst}
-use Rattle.root_runs.specs.Runs.{list_course, reads_then, put_course, where_there, where_both, follow_course, deliver_course, update_by, update_with, update_over, inner_by, commits_round, then_commits, commit_over, root_by, root_course}
+use Rattle.root_runs.specs.Runs.{list_course, reads_then, put_course, where_there, where_both, follow_course, deliver_course, update_by, update_with, update_over, inner_by, commits_round, then_commits, commit_over, root_by}
 use Rattle.root_runs.specs.declared.done.Done.{Done}
 
 -- where the collection is there it is done

@@ -104,7 +104,7 @@ commit_over l dest size (Some e) =
     and_then (inner_by l e (deed_of (operator_in e)))
     (then_commits l dest size (gives_summaries (deed_of (operator_in e))))
 
--- an expression, by what its root does
+-- an expression, by what its root does; a daemon stands on a board and isn't carried out itself
 abbrev pub root_by : Layout → ExprTree → Deed → Course Done
 root_by l e reads = reads_then l e (λ docs. ends (given docs))
 root_by l e (follows checkpoints src id) =
@@ -112,7 +112,7 @@ root_by l e (follows checkpoints src id) =
     (follow_course l (record { checkpoints = checkpoints; id = id }) (topic_of e))
 root_by l e (writes dest size) = update_over l e dest size
 root_by l e (commits dest size) = commit_over l dest size (input_of e)
-root_by l e repeats = ends (stopped (codes "NotYet daemon"))
+root_by l e repeats = ends (misplaced e)
 
 -- an expression
 abbrev pub root_course : Layout → ExprTree → Course Done

@@ -44,7 +44,8 @@ fn give_plain<T: Turns, R: Threads + Sync, G: Gate>(
     Ok(Done::given(docs))
 }
 
-/// What an expression does at the site. After an `Err` a beginning of it was done.
+/// What an expression does at the site. A daemon stands on a board and isn't carried out itself. After
+/// an `Err` a beginning of it was done.
 pub fn run_deed<T: Turns, R: Threads + Sync, G: Gate>(
     alloc: Global,
     rt: &R,
@@ -70,7 +71,7 @@ pub fn run_deed<T: Turns, R: Threads + Sync, G: Gate>(
         Deed::Commits { dest, batch_size } => {
             run_commit_of(alloc, rt, site, dest, batch_size, checked, gate)
         }
-        Deed::Repeats => Done::stopped(alloc, "NotYet daemon"),
+        Deed::Repeats => Done::misplaced(alloc, checked.expr()),
     }
 }
 

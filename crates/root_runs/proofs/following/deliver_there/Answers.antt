@@ -1,5 +1,5 @@
 use Rattle.std.proofs.Common.{refl}
-use Rattle.std.specs.Prelude.{Some, Ok, Err}
+use Rattle.std.specs.Prelude.{Some, Err}
 use Rattle.exchange_rules.specs.Courses.{ends}
 use Rattle.exchange_rules.specs.Topics.{run_course}
 use Rattle.topic_book.specs.declared.topic.TopicKey.{TopicKey}
