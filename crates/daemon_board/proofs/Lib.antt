@@ -2,3 +2,5 @@ mod CallLemmas
 mod ClaimLemmas
 mod LoopLemmas
 mod PlaceLemmas
+pub mod RisingLemmas
+pub mod TicketLemmas

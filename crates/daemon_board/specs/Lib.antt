@@ -5,3 +5,5 @@ pub mod Listed
 pub mod Finding
 pub mod Boards
 pub mod Views
+pub mod Tickets
+pub mod Rising
