@@ -10,6 +10,7 @@ use Rattle.exchange_rules.specs.Following.{Writer, cleared}
 use Rattle.exchange_rules.specs.Rows.{Layout}
 use Rattle.exchange_rules.proofs.GrowthLemmas.{grows_same}
 use Rattle.form_request.specs.Streams.{Held}
+use Rattle.stream_handler.specs.Boards.{BoardState}
 use Rattle.stream_handler.specs.Exchanges.{Answer, exchanges_of, replies_of}
 use Rattle.stream_handler.specs.Sessions.{Wire, Came, AreOpen, IsAnsweredInPart, IsBounded, IsOneEnd, IsUnanswered, IsWithin, EndsBy, Exchanged, IsOneServed, IsOver, IsServed, IsSession, most_requests, nothing, record_of, wire}
 use Rattle.stream_handler.specs.Serving.{end_of, exchanges_in}
@@ -39,6 +40,7 @@ served_none l wire w fresh = record {
     sound = refl;
     looked = λ cell. omega arith;
   };
+  boards = refl;
   recorded = fresh;
 }
 
@@ -58,6 +60,7 @@ over_here l old new w v answers s = record {
           s.written;
     };
     exchanged = s.exchanged;
+    boards = s.boards;
     recorded = s.recorded;
   });
 }
@@ -71,6 +74,7 @@ over_full l old new w v answers s full = record {
   ends = inl (record {
     ends = (s.passed, s.written, inr full);
     exchanged = s.exchanged;
+    boards = s.boards;
     recorded = s.recorded;
   });
 }
@@ -110,6 +114,7 @@ over_closed l old mid new u v w answers exchanges x e p s =
         ends = inl (record {
           ends = (all.passed, all.written, inl (answers, s.answer, refl, s.closes, s.behind refl));
           exchanged = all.exchanged;
+          boards = all.boards;
           recorded = all.recorded;
         });
       };
@@ -140,6 +145,7 @@ part_over l old new w v x s = record {
   ends = inl (record {
     ends = (s.rose, inr s.cut);
     exchanged = s.exchanged;
+    boards = s.boards;
     recorded = s.recorded;
   });
 }
@@ -176,6 +182,7 @@ session_cleared l old new w v exchanges rest e s = record {
     ends (inl i) = inl (record {
       ends = i.ends;
       exchanged = exchanged_of l w v s.answers i.exchanged;
+      boards = i.boards;
       recorded = i.recorded;
     })
     ends (inr (is, b)) = inr (
@@ -192,18 +199,22 @@ session_cleared l old new w v exchanges rest e s = record {
         marks = b.marks;
         own = b.own;
         looked = b.looked;
+        told = b.told;
         left = b.left;
         followed = b.followed;
+        board = b.board;
+        boards = b.boards;
+        asked = b.asked;
       },
     )
 
 -- a whole connection, between the two times at which the record is taken
 pub session_of : {l m : Layout} {held start : Held} {left : Option (List ℕ)} {reads : ℕ}
-    {written : Option (List ℕ)} {writes : ℕ} {new : Wire} {w u v z : Writer}
+    {written : Option (List ℕ)} {writes : ℕ} {board : BoardState} {new : Wire} {w u v z : Writer}
     {exchanges items : List Exchange} {rest : Record} {e : End} → m ≡ l → held ≡ start → u ≡ cleared w
     → z ≡ cleared v → exchanges ≡ items → rest ≡ record_of v
-    → IsBounded m (wire held left reads written writes) new u v items (record_of v) e
-    → IsBounded l (wire start left reads written writes) new w z exchanges rest e
+    → IsBounded m (wire held left reads written writes board) new u v items (record_of v) e
+    → IsBounded l (wire start left reads written writes board) new w z exchanges rest e
 session_of same begins fresh left are told s =
     let a = rw (same, begins, fresh) at s in
     rw (left, are, told)

@@ -5,7 +5,8 @@ use Rattle.io_edge.specs.Edge.{Appends}
 use Rattle.exchange_rules.specs.Following.{Writer, cleared}
 use Rattle.exchange_rules.specs.Rows.{Layout}
 use Rattle.form_request.specs.declared.request.Request.{Request}
-use Rattle.stream_handler.specs.Exchanges.{Answer, reply_to}
+use Rattle.stream_handler.specs.Boards.{BoardState}
+use Rattle.stream_handler.specs.Exchanges.{Answer, BoardsAlong, reply_to}
 use Rattle.stream_handler.specs.Outcomes.{reply_of}
 use Rattle.stream_handler.specs.Passing.{said}
 use Rattle.stream_handler.specs.Serving.{IsCarriedOut, IsLeftOff, IsReplied, IsWritten, IsWrittenInPart, sunk}
@@ -43,23 +44,29 @@ not_closed names old new end.OutOfMemory q = λ x. cc
 
 -- no message is whole
 pub over_none : (l : Layout) (names : List NameShards) (old new : Wire) (w v : Writer) (e : End)
-    → names ≡ l.names → v ≡ cleared w → IsHalted names old new e
+    → names ≡ l.names → v ≡ cleared w → new.board ≡ old.board → IsHalted names old new e
     → IsUnanswered l old new w v e
-over_none l names old new w v e same clear h =
+over_none l names old new w v e same clear still h =
     let h' = subst (λ n. IsHalted n old new e) same h in
     record {
       unclosed = not_closed l.names old new e h'.ends;
       over = subst (λ v. IsOver l old new w v [] (record_of v) e) (sym clear) (record {
         counts = h'.counts;
-        ends = inl (record { ends = h'.ends; exchanged = exchanged_none l w; recorded = refl });
+        ends = inl (record {
+          ends = h'.ends;
+          exchanged = exchanged_none l w;
+          boards = still;
+          recorded = refl;
+        });
       });
     }
 
 module _ (l : Layout) (start mid : Wire) (w v : Writer) (request : Request)
-    (whole : IsWhole l.names start mid request) (written : Option (List ℕ)) (writes : ℕ) where
+    (whole : IsWhole l.names start mid request) (written : Option (List ℕ)) (writes : ℕ)
+    (board : BoardState) where
   -- the connection once the reply was tried
   abbrev pub now : Wire
-  now = wire mid.held mid.left mid.reads written writes
+  now = wire mid.held mid.left mid.reads written writes board
 
   abbrev pub answer_of : Exchange → Outcome → Answer
   answer_of x o =
@@ -83,13 +90,19 @@ module _ (l : Layout) (start mid : Wire) (w v : Writer) (request : Request)
       → said whole.asks ++ reply_of request.closes x.millis o ≡ reply_to (answer_of x o) ++ []
   one_reply x o = sym (append-nil (reply_to (answer_of x o)))
 
-  left_nothing : (x : Exchange) (o : Outcome) → IsCarriedOut l (cleared w) v request x o
+  left_nothing : (x : Exchange) (o : Outcome) → IsCarriedOut l (cleared w) v start.board board request x o
       → record_of v ≡ nothing
   left_nothing x o c = ap record_of c.rest
 
+  -- what the board said to it
+  one_board : (x : Exchange) (o : Outcome)
+      → IsCarriedOut l (cleared w) v start.board board request x o
+      → BoardsAlong l start.board (answer_of x o ∷ []) board
+  one_board x o c = (board, c.board, refl)
+
   served : (x : Exchange) (last : Bool) → request.closes ≡ last
       → (last ≡ true → request.closes ≡ true)
-      → IsWritten l (cleared w) v request (sunk mid.written written mid.writes writes) x
+      → IsWritten l (cleared w) v start.board board request (sunk mid.written written mid.writes writes) x
       → IsOneServed l start now w v x last
   served x last is closes s = record {
     answer = answer_of x s.outcome;
@@ -102,17 +115,21 @@ module _ (l : Layout) (start mid : Wire) (w v : Writer) (request : Request)
       written = subst (λ t. Appends start.written written t) (one_reply x s.outcome)
           (appends_join start.written mid.written written (said whole.asks)
           (reply_of request.closes x.millis s.outcome) whole.written s.written);
-      exchanged = exchanged_one l w v (record { asks = whole.asks; request = request }) x s.outcome
+      exchanged = exchanged_one l w v start.board board
+          (record { asks = whole.asks; request = request }) x s.outcome
           (carried x s.outcome s.carried);
+      boards = one_board x s.outcome s.carried;
       recorded = left_nothing x s.outcome s.carried;
     };
   }
     where
-      carried : (x : Exchange) (o : Outcome) → IsCarriedOut l (cleared w) v request x o
-          → IsCarriedOut l w v request x o
+      carried : (x : Exchange) (o : Outcome)
+          → IsCarriedOut l (cleared w) v start.board board request x o
+          → IsCarriedOut l w v start.board board request x o
       carried x o c = record {
         end = c.end;
         carried = c.carried;
+        board = c.board;
         rest = c.rest;
         marks = c.marks;
         own = c.own;
@@ -120,7 +137,7 @@ module _ (l : Layout) (start mid : Wire) (w v : Writer) (request : Request)
       }
 
   -- a beginning was carried out
-  left_off : IsLeftOff l (cleared w) v request (sunk mid.written written mid.writes writes)
+  left_off : IsLeftOff l (cleared w) v start.board board request (sunk mid.written written mid.writes writes)
       → IsOver l start now w v [] (record_of v) end.OutOfMemory
   left_off s = record {
     counts = since (omega (arith, s.fails));
@@ -132,21 +149,25 @@ module _ (l : Layout) (start mid : Wire) (w v : Writer) (request : Request)
         written = appends_still start.written mid.written written (said whole.asks) whole.written s.written;
         mid = cleared w;
         exchanged = exchanged_none l w;
-        same = s.begun.1.same;
-        grown = s.begun.1.grown;
-        accesses = s.begun.1.accesses;
-        marks = s.begun.1.marks;
-        own = s.begun.1.own;
-        looked = s.begun.1.looked;
-        left = s.begun.0;
-        followed = s.begun.1.followed;
+        same = s.begun.begun.1.same;
+        grown = s.begun.begun.1.grown;
+        accesses = s.begun.begun.1.accesses;
+        marks = s.begun.begun.1.marks;
+        own = s.begun.begun.1.own;
+        looked = s.begun.begun.1.looked;
+        told = s.begun.told;
+        left = s.begun.begun.0;
+        followed = s.begun.begun.1.followed;
+        board = start.board;
+        boards = refl;
+        asked = s.begun.board;
       },
     );
   }
 
   -- the reply was written in part
   in_part : (x : Exchange)
-      → IsWrittenInPart l (cleared w) v request (sunk mid.written written mid.writes writes) x
+      → IsWrittenInPart l (cleared w) v start.board board request (sunk mid.written written mid.writes writes) x
       → IsAnsweredInPart l start now w v x
   in_part x s = record {
     counts = since s.stays;
@@ -165,20 +186,23 @@ module _ (l : Layout) (start mid : Wire) (w v : Writer) (request : Request)
       written = appends_join start.written mid.written written (said whole.asks) s.written.0
           whole.written s.written.3;
     };
-    exchanged = exchanged_one l w v (record { asks = whole.asks; request = request }) x s.outcome (record {
-      end = s.carried.end;
-      carried = s.carried.carried;
-      rest = s.carried.rest;
-      marks = s.carried.marks;
-      own = s.carried.own;
-      at_once = s.carried.at_once;
-    });
+    exchanged = exchanged_one l w v start.board board
+        (record { asks = whole.asks; request = request }) x s.outcome (record {
+          end = s.carried.end;
+          carried = s.carried.carried;
+          board = s.carried.board;
+          rest = s.carried.rest;
+          marks = s.carried.marks;
+          own = s.carried.own;
+          at_once = s.carried.at_once;
+        });
+    boards = one_board x s.outcome s.carried;
     recorded = left_nothing x s.outcome s.carried;
   }
 
   -- how the message was served
   pub one_end : (r : OneEnd)
-      → IsReplied l (cleared w) v request (sunk mid.written written mid.writes writes) r
+      → IsReplied l (cleared w) v start.board board request (sunk mid.written written mid.writes writes) r
       → IsOneEnd l start now w v r
   one_end (Served x) s = served x false s.0 (λ e. absurd (cc)) s.1
   one_end (Last x) s = served x true s.0 (λ e. s.0) s.1
@@ -188,13 +212,14 @@ module _ (l : Layout) (start mid : Wire) (w v : Writer) (request : Request)
 
 -- the same, where names, layout and writer are what the site says of them
 pub one_end_of : (l m : Layout) (names : List NameShards) (start mid : Wire) (w u v : Writer)
-    (request : Request) (written : Option (List ℕ)) (writes : ℕ) (r : OneEnd)
+    (request : Request) (written : Option (List ℕ)) (writes : ℕ) (board : BoardState) (r : OneEnd)
     → names ≡ m.names → m ≡ l → u ≡ cleared w → IsWhole names start mid request
-    → IsReplied m u v request (sunk mid.written written mid.writes writes) r
-    → IsOneEnd l start (wire mid.held mid.left mid.reads written writes) w v r
-one_end_of l m names start mid w u v request written writes r named same clear whole s =
+    → IsReplied m u v start.board board request (sunk mid.written written mid.writes writes) r
+    → IsOneEnd l start (wire mid.held mid.left mid.reads written writes board) w v r
+one_end_of l m names start mid w u v request written writes board r named same clear whole s =
+    let sunk' = sunk mid.written written mid.writes writes in
     let whole' = subst (λ n. IsWhole n start mid request)
     (named ∙ ap (λ (k : Layout). k.names) same) whole in
-    let s' = subst (λ k. IsReplied k (cleared w) v request (sunk mid.written written mid.writes writes) r) same
-    (subst (λ u. IsReplied m u v request (sunk mid.written written mid.writes writes) r) clear s) in
-    one_end l start mid w v request whole' written writes r s'
+    let s' = subst (λ k. IsReplied k (cleared w) v start.board board request sunk' r) same
+    (subst (λ u. IsReplied m u v start.board board request sunk' r) clear s) in
+    one_end l start mid w v request whole' written writes board r s'

@@ -40,7 +40,7 @@ module _ (l : Layout) (old new : Wire) (w v : Writer) (answers : List Answer) (c
       b.exchanged.sound) in
       let then : IsCounted w.me v.seen mid (counts v.seen) rest.own c =
       subst (λ (own : List OwnMark). IsCounted w.me v.seen mid (counts v.seen) own c) (sym b.own)
-      (follows_counted w.me v.seen mid (request_course l b.message.request) b.accesses b.left
+      (follows_counted w.me v.seen mid (request_course l b.told b.message.request) b.accesses b.left
       (counts v.seen) c b.followed) in
       counted_join w.me v.seen (counts w.seen) mid (counts v.seen) (owns_of (exchanges_of answers))
       rest.own c first then

@@ -16,7 +16,8 @@ use Rattle.exchange_rules.proofs.GrowthLemmas.{grows_join, grows_same}
 use Rattle.exchange_rules.proofs.ReachLemmas.{count_by-append}
 use Rattle.form_request.specs.declared.reading.After.{After}
 use Rattle.form_request.specs.declared.reading.Message.{Message}
-use Rattle.stream_handler.specs.Exchanges.{Answer, AreSound, IsSound, looks_of, messages_of, replies_of, reply_to}
+use Rattle.stream_handler.specs.Boards.{BoardState}
+use Rattle.stream_handler.specs.Exchanges.{Answer, AreSound, BoardsAlong, IsSound, looks_of, messages_of, replies_of, reply_to}
 use Rattle.stream_handler.specs.Passing.{Passes, said}
 use Rattle.stream_handler.specs.Requests.{request_course}
 use Rattle.stream_handler.specs.Serving.{IsCarriedOut}
@@ -38,12 +39,12 @@ pub sound_still : (l : Layout) (me : ℕ) (s t : List Log) (had end : List ℕ) 
     → AreSound l me s had xs end → AreSound l me t had xs end
 sound_still l me s t had end [] g i = i
 sound_still l me s t had end (a ∷ xs) g i =
-    let one : IsSound me t had (request_course l a.message.request) a.exchange a.outcome i.0 =
+    let one : IsSound me t had (request_course l a.outcome a.message.request) a.exchange a.outcome
+    i.0 =
     sound_of l me t had a.message.request a.exchange a.outcome i.0 i.1.accesses i.1.marks i.1.own
     i.1.at_once
-    (follows_still me s t had (request_course l a.message.request) i.1.accesses (ends a.outcome)
-    i.0 g
-    i.1.followed) in
+    (follows_still me s t had (request_course l a.outcome a.message.request) i.1.accesses
+    (ends a.outcome) i.0 g i.1.followed) in
     (i.0, one, sound_still l me s t i.0 end xs g i.2)
 
 -- some and then others
@@ -52,6 +53,12 @@ sound_join : (l : Layout) (me : ℕ) (s : List Log) (had mid end : List ℕ) (xs
 sound_join l me s had mid end [] ys i j = subst (λ h. AreSound l me s h ys end) i j
 sound_join l me s had mid end (a ∷ xs) ys i j =
     (i.0, i.1, sound_join l me s i.0 mid end xs ys i.2 j)
+
+-- what a board said to some and then to others
+pub boards_join : (l : Layout) (a b c : BoardState) (xs ys : List Answer) → BoardsAlong l a xs b
+    → BoardsAlong l b ys c → BoardsAlong l a (xs ++ ys) c
+boards_join l a b c [] ys p q = subst (λ x. BoardsAlong l x ys c) p q
+boards_join l a b c (x ∷ xs) ys p q = (p.0, p.1, boards_join l p.0 b c xs ys p.2 q)
 
 -- none
 pub exchanged_none : (l : Layout) (w : Writer) → Exchanged l w (cleared w) []
@@ -63,10 +70,10 @@ exchanged_none l w = record {
 }
 
 -- one
-pub exchanged_one : (l : Layout) (w v : Writer) (message : Message) (x : Exchange) (o : Outcome)
-    → IsCarriedOut l w v message.request x o
+pub exchanged_one : (l : Layout) (w v : Writer) (before after : BoardState) (message : Message)
+    (x : Exchange) (o : Outcome) → IsCarriedOut l w v before after message.request x o
     → Exchanged l w v (record { message = message; exchange = x; outcome = o } ∷ [])
-exchanged_one l w v message x o c = subst P (sym c.rest) now
+exchanged_one l w v before after message x o c = subst P (sym c.rest) now
   where
     P : Writer → Type 0
     P = λ v. Exchanged l w v (record { message = message; exchange = x; outcome = o } ∷ [])
@@ -220,6 +227,7 @@ served_join l old mid new u v w xs ys p q = record {
   written = subst (λ t. Appends old.written new.written t) (sym (replies_join xs ys))
       (appends_join old.written mid.written new.written (replies_of xs) (replies_of ys) p.written q.written);
   exchanged = exchanged_join l u v w xs ys p.exchanged q.exchanged;
+  boards = boards_join l old.board mid.board new.board xs ys p.boards q.boards;
   recorded = q.recorded;
 }
 
@@ -233,6 +241,7 @@ over_join l old mid new u v w xs ys rest e p other q = record {
     | inl s ↦ inl (record {
       ends = wire_join l.names old mid new xs ys p.passed p.written e p.counts other s.ends;
       exchanged = exchanged_join l u v w xs ys p.exchanged s.exchanged;
+      boards = boards_join l old.board mid.board new.board xs ys p.boards s.boards;
       recorded = s.recorded;
     })
     | inr b ↦ inr (b.0, begun b.1)
@@ -255,7 +264,12 @@ over_join l old mid new u v w xs ys rest e p other q = record {
       marks = b.marks;
       own = b.own;
       looked = b.looked;
+      told = b.told;
       left = b.left;
-      followed = subst (λ me. Follows me w.seen (counts b.mid.seen) (request_course l b.message.request)
-          b.accesses b.left (counts w.seen)) p.exchanged.same b.followed;
+      followed = subst (λ me. Follows me w.seen (counts b.mid.seen)
+          (request_course l b.told b.message.request) b.accesses b.left (counts w.seen))
+          p.exchanged.same b.followed;
+      board = b.board;
+      boards = boards_join l old.board mid.board b.board xs ys p.boards b.boards;
+      asked = b.asked;
     }

@@ -1,7 +1,8 @@
 -- What makes an exchange sound, and what sound exchanges tell of the writer's own steps.
-use Rattle.std.proofs.Common.{◌≡◌, ℕ, Bool, List, [], ◌∷◌, length, sym, ◌∙◌, subst}
-use Rattle.std.specs.Prelude.{◌||◌, Option, Some, None, Result, Ok, Err, codes, nat_lt}
+use Rattle.std.proofs.Common.{◌≡◌, ℕ, Bool, List, [], ◌∷◌, length, sym, ◌∙◌, subst, inr}
+use Rattle.std.specs.Prelude.{◌||◌, Option, Some, None, Result, Ok, Err, IfErr, codes, nat_lt}
 use Rattle.tuple_values.specs.Document.{ByteList}
+use Rattle.tuple_values.specs.declared.memory.Memory.{Memory}
 use Rattle.json_text.specs.declared.fault.JsonFault.{JsonFault}
 use Rattle.json_text.specs.declared.update.Update as body
 use Rattle.shard_versions.specs.declared.cut.CutMark.{CutMark}
@@ -9,7 +10,7 @@ use Rattle.shard_versions.specs.declared.cut.OwnMark.{OwnMark}
 use Rattle.exchange_rules.specs.Accesses.{Access, marks_of, own_of}
 use Rattle.exchange_rules.specs.Cells.{Log}
 use Rattle.exchange_rules.specs.Courses.{ends}
-use Rattle.exchange_rules.specs.Following.{Follows, Writer, Answers, cleared, counts}
+use Rattle.exchange_rules.specs.Following.{Follows, Writer, Answers, Begins, cleared, counts}
 use Rattle.exchange_rules.specs.Looking.{LooksFirst}
 use Rattle.exchange_rules.specs.Rows.{Layout, finish_course, index_course, shares_of, writes_course}
 use Rattle.exchange_rules.specs.Recorded.{AreRecorded, AreLookedAt}
@@ -19,22 +20,26 @@ use Rattle.exchange_rules.proofs.RecordedLemmas.{counted_join, counted_none, fol
 use Rattle.form_request.specs.Params.{first_value}
 use Rattle.form_request.specs.declared.request.Handler.{Handler}
 use Rattle.form_request.specs.declared.request.Handler.TheVariants.{Stream, Update}
+use Rattle.form_request.specs.declared.request.Param.{Param}
 use Rattle.form_request.specs.declared.request.Request.{Request}
 use Rattle.json_text.specs.Updates.{update_in}
-use Rattle.expr_types.specs.ExprTree.{ExprTree}
+use Rattle.expr_types.specs.ExprTree.{ExprTree, operator_in}
 use Rattle.topic_book.specs.Fitness.{shards_of}
-use Rattle.stream_handler.specs.Exchanges.{Answer, AreSound, IsAnswered, IsSound, exchanges_of, owns_of}
+use Rattle.stream_handler.specs.Asks.{action_read, ask_of, daemon_of}
+use Rattle.stream_handler.specs.Boards.{Ask, BoardState, MayAsk, Says}
+use Rattle.stream_handler.specs.Exchanges.{Answer, AreSound, IsAnswered, IsBroken, IsSound, exchanges_of, owns_of}
 use Rattle.expr_check.specs.declared.roots.Roots.TheVariants.{All}
 use Rattle.expr_text.specs.Reading.{expression_of}
 use Rattle.root_runs.specs.Runs.{list_course, root_course}
 use Rattle.root_runs.proofs.RootLemmas.{roots_first}
 use Rattle.stream_handler.specs.Outcomes.{reply_of}
 use Rattle.stream_handler.specs.Refusals.{refusal}
-use Rattle.stream_handler.specs.Requests.{RequestsLookFirst, handled, is_true, expression_course, outcome_of, plain_course, request_course, stream_course, update_course}
+use Rattle.stream_handler.specs.Requests.{RequestsLookFirst, acted_course, action_course, deed_course, handled, is_true, expression_course, outcome_of, plain_course, request_course, root_or_told, stream_course, update_course}
 use Rattle.stream_handler.specs.declared.exchange.Answered.{Answered}
 use Rattle.stream_handler.specs.declared.exchange.Exchange.{Exchange}
 use Rattle.stream_handler.specs.declared.outcome.Outcome.{Outcome}
 use Rattle.stream_handler.specs.declared.outcome.Outcome.TheVariants.{ResultSet}
+use Rattle.stream_handler.specs.declared.starting.NewDaemon.{NewDaemon}
 
 -- an expression that only reads looks first
 plain_first : (l : Layout) (read : Result ExprTree ByteList) → LooksFirst None (plain_course l read)
@@ -43,18 +48,42 @@ plain_first l (Ok e) =
     then_first None (list_course l e) (λ docs. ends (ResultSet docs None)) (roots_first.list l e)
     (λ docs. tt)
 
--- so does each expression
-expression_first : (l : Layout) (read : Result ExprTree ByteList)
-    → LooksFirst None (expression_course l read)
-expression_first l (Err text) = tt
-expression_first l (Ok e) =
+-- so does each expression that is carried out at the site
+deed_first : (l : Layout) (e : ExprTree) → LooksFirst None (deed_course l e)
+deed_first l e =
     then_first None (root_course l e) (λ done. ends (outcome_of done)) (roots_first.root l e)
     (λ done. tt)
 
+-- and one that is put on a board, which looks at nothing
+root_first : (l : Layout) (told : Outcome) (e : ExprTree) (d : Option NewDaemon)
+    → LooksFirst None (root_or_told l told e d)
+root_first l told e None = deed_first l e
+root_first l told e (Some d) = tt
+
+-- so does each expression
+expression_first : (l : Layout) (told : Outcome) (read : Result ExprTree ByteList)
+    → LooksFirst None (expression_course l told read)
+expression_first l told (Err text) = tt
+expression_first l told (Ok e) = root_first l told e (daemon_of (operator_in e))
+
 -- so does one in a parameter
-stream_first : (l : Layout) (given : Option ByteList) → LooksFirst None (stream_course l given)
-stream_first l None = tt
-stream_first l (Some bytes) = expression_first l (expression_of All l.names bytes)
+stream_first : (l : Layout) (told : Outcome) (given : Option ByteList)
+    → LooksFirst None (stream_course l told given)
+stream_first l told None = tt
+stream_first l told (Some bytes) = expression_first l told (expression_of All l.names bytes)
+
+-- an action looks at nothing
+action_first : (told : Outcome) (read : Result Ask ByteList)
+    → LooksFirst None (action_course told read)
+action_first told (Ok ask) = tt
+action_first told (Err text) = tt
+
+-- so do the parameters of `/stream`
+acted_first : (l : Layout) (told : Outcome) (params : List Param) (action : Option ByteList)
+    → LooksFirst None (acted_course l told params action)
+acted_first l told params (Some action) =
+    action_first told (action_read action (first_value (codes "id") params))
+acted_first l told params None = stream_first l told (first_value (codes "expr") params)
 
 -- so does an update
 update_first : (l : Layout) (collection : ByteList) (commit : Bool)
@@ -70,16 +99,19 @@ update_first l collection commit (Ok update) =
     then_first None (index_course l collection update.writes all) _ first (λ r. tt)
 
 -- so does each handler
-handled_first : (l : Layout) (r : Request) (h : Handler) → LooksFirst None (handled l r h)
-handled_first l r Stream = stream_first l (first_value (codes "expr") r.params)
-handled_first l r Update =
+handled_first : (l : Layout) (told : Outcome) (r : Request) (h : Handler)
+    → LooksFirst None (handled l told r h)
+handled_first l told r Stream =
+    acted_first l told r.params (first_value (codes "action") r.params)
+handled_first l told r Update =
     update_first l r.collection (is_true (first_value (codes "commit") r.params)) (update_in r.body)
 
 -- so does each request
-pub request_first : (l : Layout) (r : Request) → LooksFirst None (request_course l r)
-request_first l r =
-    either None (nat_lt 0 (shards_of l.names r.collection)) (handled l r r.handler)
-    (ends (refusal 404)) (handled_first l r r.handler) tt
+pub request_first : (l : Layout) (told : Outcome) (r : Request)
+    → LooksFirst None (request_course l told r)
+request_first l told r =
+    either None (nat_lt 0 (shards_of l.names r.collection)) (handled l told r r.handler)
+    (ends (refusal 404)) (handled_first l told r r.handler) tt
 
 -- and each expression
 pub requests_first : RequestsLookFirst
@@ -90,12 +122,12 @@ requests_first =
 pub sound_of : (l : Layout) (me : ℕ) (seen : List Log) (had : List ℕ) (r : Request) (x : Exchange)
     (o : Outcome) (end : List ℕ) (accesses : List Access)
     → x.marks ≡ marks_of accesses → x.own ≡ own_of accesses
-    → x.millis ≡ 0 → Follows me seen had (request_course l r) accesses (ends o) end
-    → IsSound me seen had (request_course l r) x o end
+    → x.millis ≡ 0 → Follows me seen had (request_course l o r) accesses (ends o) end
+    → IsSound me seen had (request_course l o r) x o end
 sound_of l me seen had r x o end accesses marks own now f =
-    let p = request_course l r in
+    let p = request_course l o r in
     let looked : AreLookedAt (marks_of accesses) (own_of accesses) =
-    (follows_looked me seen had p accesses (ends o) end (request_first l r) f).1 in
+    (follows_looked me seen had p accesses (ends o) end (request_first l o r) f).1 in
     record {
       accesses = accesses;
       marks = marks;
@@ -115,7 +147,7 @@ pub sound_counted : (l : Layout) (me : ℕ) (seen : List Log) (had end : List �
 sound_counted l me seen had end [] c i =
     subst (λ (e : List ℕ). IsCounted me seen had e [] c) (sym i) (counted_none me seen had c)
 sound_counted l me seen had end (a ∷ answers) c i =
-    let p = request_course l a.message.request in
+    let p = request_course l a.outcome a.message.request in
     let one : IsCounted me seen had i.0 a.exchange.own c =
     subst (λ (own : List OwnMark). IsCounted me seen had i.0 own c) (sym i.1.own)
     (follows_counted me seen had p i.1.accesses (ends a.outcome) i.0 c i.1.followed) in
@@ -124,19 +156,22 @@ sound_counted l me seen had end (a ∷ answers) c i =
 
 -- a request that was carried out with a record that began empty is answered, and its exchange is
 -- sound
-pub answered_of : {l m : Layout} {w u end new : Writer} {r : Request} {a : Answered} {o : Outcome}
-    → u ≡ cleared w → m ≡ l → Answers u end (request_course m r) o → new ≡ cleared end
+pub answered_of : {l m : Layout} {w u end new : Writer} {before after : BoardState} {r : Request}
+    {a : Answered} {o : Outcome}
+    → u ≡ cleared w → m ≡ l → Answers u end (request_course m o r) o
+    → Says (ask_of m.names r) before after o → new ≡ cleared end
     → a.exchange.marks ≡ end.marks → a.exchange.own ≡ end.own
     → a.reply ≡ reply_of r.closes a.exchange.millis o → a.exchange.millis ≡ 0
-    → IsAnswered l w new r a
-answered_of {l} {m} {w} {u} {end} {new} {r} {a} {o} fresh same went rest marks own reply now =
-    let k : Answers (cleared w) end (request_course l r) o =
-    subst (λ (x : Layout). Answers (cleared w) end (request_course x r) o) same
-    (subst (λ (x : Writer). Answers x end (request_course m r) o) fresh went) in
+    → IsAnswered l w new before after r a
+answered_of {l} {m} {w} {u} {end} {new} {before} {after} {r} {a} {o} fresh same went says rest marks own reply now =
+    let k : Answers (cleared w) end (request_course l o r) o =
+    subst (λ (x : Layout). Answers (cleared w) end (request_course x o r) o) same
+    (subst (λ (x : Writer). Answers x end (request_course m o r) o) fresh went) in
     record {
       outcome = o;
       end = end;
       carried = k;
+      board = subst (λ (x : Layout). Says (ask_of x.names r) before after o) same says;
       rest = rest;
       marks = marks;
       own = own;
@@ -145,3 +180,28 @@ answered_of {l} {m} {w} {u} {end} {new} {r} {a} {o} fresh same went rest marks o
       sound = sound_of l w.me end.seen (counts w.seen) r a.exchange o (counts end.seen) k.accesses
           (marks ∙ k.marks) (own ∙ k.own) now k.followed;
     }
+
+-- a request that stopped for want of memory is broken
+pub broken_of : {l m : Layout} {w u new : Writer} {before after : BoardState} {r : Request}
+    (told : Outcome)
+    → u ≡ cleared w → m ≡ l → Begins u new (request_course m told r)
+    → MayAsk (ask_of m.names r) before after → IsBroken l w new before after r
+broken_of {l} {m} {w} {u} {new} {before} {after} {r} told fresh same begun asked = record {
+  told = told;
+  begun = subst (λ (x : Layout). Begins (cleared w) new (request_course x told r)) same
+      (subst (λ (x : Writer). Begins x new (request_course m told r)) fresh begun);
+  board = subst (λ (x : Layout). MayAsk (ask_of x.names r) before after) same asked;
+}
+
+-- so is one whose reply lacked memory
+pub unreplied_of : {l m : Layout} {w u new : Writer} {before after : BoardState} {r : Request}
+    (o : Outcome)
+    → u ≡ cleared w → m ≡ l → Answers u new (request_course m o r) o
+    → Says (ask_of m.names r) before after o → IsBroken l w new before after r
+unreplied_of {l} {m} {w} {u} {new} {before} {after} {r} o fresh same went says =
+    broken_of o fresh same (ends o, went) (inr (o, says))
+
+-- an answer that lacked memory leaves the request broken
+pub is_broken : {P : Type 0} (r : Result Answered Memory) → P → IfErr r (λ _. P)
+is_broken (Ok a) p = tt
+is_broken (Err memory) p = p

@@ -93,7 +93,7 @@ module _ (names : List NameShards) (start old : Wire) (told : Bool) (w : IsWaiti
   module _ (answer : Step100) (held : Held) (t : IsTurned names told old.held answer held) where
     -- what the stream has passed with this answer
     pub passed_turn : (left : Option (List ℕ)) (reads : ℕ) (written : Option (List ℕ)) (writes : ℕ)
-        → left ≡ old.left → Passed names start (wire held left reads written writes)
+        → left ≡ old.left → Passed names start (wire held left reads written writes old.board)
         (message_after answer told []) (told_after answer told)
     passed_turn left reads written writes same =
         let p = passes_join names false told (told_after answer told) start.held old.held held w.passed.bytes []
@@ -109,7 +109,7 @@ module _ (names : List NameShards) (start old : Wire) (told : Bool) (w : IsWaiti
 pub turned_whole : (names : List NameShards) (start old : Wire) (told : Bool)
     → IsWaiting names start old told → (request : Request) (held : Held)
     → IsTurned names told old.held (step.Whole request) held
-    → IsWhole names start (wire held old.left old.reads old.written old.writes) request
+    → IsWhole names start (wire held old.left old.reads old.written old.writes old.board) request
 turned_whole names start old told w request held t = record {
   counts = record { reads = w.counts.reads; writes = w.counts.writes };
   asks = told;
@@ -125,18 +125,18 @@ pub turned_refused : (names : List NameShards) (start old : Wire) (told : Bool)
     → IsTurned names told old.held (step.Refused status) held
     → (written : Option (List ℕ)) (writes : ℕ) (e : End) → Refuses status old.written written e
     → WritesCount old.writes writes (Some e)
-    → IsHalted names start (wire held old.left old.reads written writes) e
+    → IsHalted names start (wire held old.left old.reads written writes old.board) e
 turned_refused names start old told w status held t written writes e says counts =
     record { counts = since; ends = by_end e says counts }
   where
-    since : Counts start (wire held old.left old.reads written writes)
+    since : Counts start (wire held old.left old.reads written writes old.board)
     since = record {
       reads = w.counts.reads;
       writes = omega (arith, w.counts.writes, counts.stays);
     }
 
     now : Wire
-    now = wire held old.left old.reads written writes
+    now = wire held old.left old.reads written writes old.board
 
     p : Passed names start now [] told
     p = passed_turn names start old told w (step.Refused status) held t old.left old.reads written writes refl
@@ -185,14 +185,14 @@ pub turned_continue : (names : List NameShards) (start old : Wire) (told : Bool)
     → IsWaiting names start old told → (held : Held) → IsTurned names told old.held step.Continue held
     → (written : Option (List ℕ)) (writes : ℕ) (r : Option End) → Continues old.written written r
     → WritesCount old.writes writes r
-    → TurnsTo names start (wire held old.left old.reads written writes) (turn_of r)
+    → TurnsTo names start (wire held old.left old.reads written writes old.board) (turn_of r)
 turned_continue names start old told w held t written writes r says counts = by_end r says counts
   where
     P : Option End → Type 0
-    P = λ r. TurnsTo names start (wire held old.left old.reads written writes) (turn_of r)
+    P = λ r. TurnsTo names start (wire held old.left old.reads written writes old.board) (turn_of r)
 
     now : Wire
-    now = wire held old.left old.reads written writes
+    now = wire held old.left old.reads written writes old.board
 
     p : Passed names start now [] true
     p = passed_turn names start old told w step.Continue held t old.left old.reads written writes refl
@@ -236,17 +236,17 @@ pub turned_wants : (names : List NameShards) (start old : Wire) (told : Bool)
     → IsWaiting names start old told → (held new : Held) → IsTurned names told old.held step.Wants held
     → (left : Option (List ℕ)) (reads : ℕ) (r : Option End) → Reads held new old.left left r
     → ReadsCount old.reads reads r
-    → TurnsTo names start (wire new left reads old.written old.writes) (turn_of r)
+    → TurnsTo names start (wire new left reads old.written old.writes old.board) (turn_of r)
 turned_wants names start old told w held new t left reads r says counts = by_end r says counts
   where
     P : Option End → Type 0
-    P = λ r. TurnsTo names start (wire new left reads old.written old.writes) (turn_of r)
+    P = λ r. TurnsTo names start (wire new left reads old.written old.writes old.board) (turn_of r)
 
     now : Wire
-    now = wire new left reads old.written old.writes
+    now = wire new left reads old.written old.writes old.board
 
     mid : Wire
-    mid = wire held old.left old.reads old.written old.writes
+    mid = wire held old.left old.reads old.written old.writes old.board
 
     p : Passed names start mid [] told
     p = passed_turn names start old told w step.Wants held t old.left old.reads old.written old.writes refl

@@ -7,11 +7,13 @@ use Rattle.shard_versions.specs.declared.cut.OwnMark.{OwnMark}
 use Rattle.exchange_rules.specs.Accesses.{Access, marks_of, own_of}
 use Rattle.exchange_rules.specs.Cells.{Log}
 use Rattle.exchange_rules.specs.Courses.{Course, ends}
-use Rattle.exchange_rules.specs.Following.{Follows, Writer, Answers, cleared, counts}
+use Rattle.exchange_rules.specs.Following.{Follows, Writer, Answers, Begins, cleared, counts}
 use Rattle.exchange_rules.specs.Rows.{Layout}
 use Rattle.exchange_rules.specs.Recorded.{AreRecorded, AreLookedAt}
 use Rattle.form_request.specs.declared.reading.Message.{Message}
 use Rattle.form_request.specs.declared.request.Request.{Request}
+use Rattle.stream_handler.specs.Asks.{ask_of}
+use Rattle.stream_handler.specs.Boards.{BoardState, MayAsk, Says}
 use Rattle.stream_handler.specs.Outcomes.{reply_of}
 use Rattle.stream_handler.specs.Passing.{said}
 use Rattle.stream_handler.specs.Requests.{request_course}
@@ -39,13 +41,23 @@ pub record Answer : Type 0 where
   pub exchange : Exchange
   pub outcome : Outcome
 
--- each exchange is sound for its message's request, one after another
+-- each exchange is sound for its message's request, one after another; where the board is asked it
+-- told the answer itself
 abbrev pub AreSound : Layout → ℕ → List Log → List ℕ → List Answer → List ℕ → Type 0
 AreSound l me seen had [] end = end ≡ had
 AreSound l me seen had (a ∷ answers) end =
     (mid : List ℕ)
-    × IsSound me seen had (request_course l a.message.request) a.exchange a.outcome mid
+    × IsSound me seen had (request_course l a.outcome a.message.request) a.exchange a.outcome mid
     × AreSound l me seen mid answers end
+
+-- a board from what it was to what it is: each answer is what it said to its message's request, one
+-- after another
+abbrev pub BoardsAlong : Layout → BoardState → List Answer → BoardState → Type 0
+BoardsAlong l old [] new = new ≡ old
+BoardsAlong l old (a ∷ answers) new =
+    (mid : BoardState)
+    × Says (ask_of l.names a.message.request) old mid a.outcome
+    × BoardsAlong l mid answers new
 
 -- what is written of a message: `100 Continue` where it asks for it, and the reply
 abbrev pub reply_to : Answer → ByteList
@@ -71,16 +83,26 @@ abbrev pub owns_of : List Exchange → List OwnMark
 owns_of exchanges = flat_map (λ x. x.own) exchanges
 
 -- a request was carried out and answered: its writer began with an empty record, followed the
--- request's course, and left its record to the exchange, which is sound
-pub record IsAnswered (l : Layout) (old new : Writer) (request : Request) (a : Answered)
-    : Type 0 where
+-- request's course, and left its record to the exchange, which is sound; the board was asked what
+-- the request asks, and told the answer where that is something
+pub record IsAnswered (l : Layout) (old new : Writer) (before after : BoardState)
+    (request : Request) (a : Answered) : Type 0 where
   pub outcome : Outcome
   pub end : Writer
-  pub carried : Answers (cleared old) end (request_course l request) outcome
+  pub carried : Answers (cleared old) end (request_course l outcome request) outcome
+  pub board : Says (ask_of l.names request) before after outcome
   pub rest : new ≡ cleared end
   pub marks : a.exchange.marks ≡ end.marks
   pub own : a.exchange.own ≡ end.own
   pub reply : a.reply ≡ reply_of request.closes a.exchange.millis outcome
   pub at_once : a.exchange.millis ≡ 0
-  pub sound : IsSound old.me end.seen (counts old.seen) (request_course l request) a.exchange
-      outcome (counts end.seen)
+  pub sound : IsSound old.me end.seen (counts old.seen) (request_course l outcome request)
+      a.exchange outcome (counts end.seen)
+
+-- a request was begun, by a writer that began with an empty record, and memory was wanting: a
+-- beginning of its course was followed, and the board was asked or not
+pub record IsBroken (l : Layout) (old new : Writer) (before after : BoardState) (request : Request)
+    : Type 0 where
+  pub told : Outcome
+  pub begun : Begins (cleared old) new (request_course l told request)
+  pub board : MayAsk (ask_of l.names request) before after

@@ -1,6 +1,8 @@
 pub mod Responses
 pub mod Outcomes
 pub mod Refusals
+pub mod Boards
+pub mod Asks
 pub mod Requests
 pub mod Passing
 pub mod Exchanges

@@ -1,9 +1,12 @@
 -- How a request is carried out and its reply written (own).
 use Rattle.std.specs.Prelude.{ℕ, ◌≡◌, ◌≤◌, true, false, List, [], ◌∷◌, Option, Some, None}
 use Rattle.io_edge.specs.Edge.{Appends, AppendsPrefix, Rose}
-use Rattle.exchange_rules.specs.Following.{Writer, Answers, Begins, cleared}
+use Rattle.exchange_rules.specs.Following.{Writer, Answers, cleared}
 use Rattle.exchange_rules.specs.Rows.{Layout}
 use Rattle.form_request.specs.declared.request.Request.{Request}
+use Rattle.stream_handler.specs.Asks.{ask_of}
+use Rattle.stream_handler.specs.Boards.{BoardState, Says}
+use Rattle.stream_handler.specs.Exchanges.{IsBroken}
 use Rattle.stream_handler.specs.Outcomes.{reply_of}
 use Rattle.stream_handler.specs.Requests.{request_course}
 use Rattle.stream_handler.specs.declared.ending.End.{End}
@@ -14,11 +17,12 @@ use Rattle.stream_handler.specs.declared.exchange.Exchange.{Exchange}
 use Rattle.stream_handler.specs.declared.outcome.Outcome.{Outcome}
 
 -- a writer that began with an empty record carried the request out, and left its record to the
--- exchange
-pub record IsCarriedOut (l : Layout) (old new : Writer) (request : Request) (x : Exchange) (o : Outcome)
-    : Type 0 where
+-- exchange; the board was asked what the request asks
+pub record IsCarriedOut (l : Layout) (old new : Writer) (before after : BoardState)
+    (request : Request) (x : Exchange) (o : Outcome) : Type 0 where
   pub end : Writer
-  pub carried : Answers (cleared old) end (request_course l request) o
+  pub carried : Answers (cleared old) end (request_course l o request) o
+  pub board : Says (ask_of l.names request) before after o
   pub rest : new ≡ cleared end
   pub marks : x.marks ≡ end.marks
   pub own : x.own ≡ end.own
@@ -36,38 +40,40 @@ sunk before after failed fails =
     record { before = before; after = after; failed = failed; fails = fails }
 
 -- the request was carried out, and its reply is written
-pub record IsWritten (l : Layout) (old new : Writer) (request : Request) (s : Sunk) (x : Exchange)
-    : Type 0 where
+pub record IsWritten (l : Layout) (old new : Writer) (before after : BoardState)
+    (request : Request) (s : Sunk) (x : Exchange) : Type 0 where
   pub stays : s.failed ≤ s.fails
   pub outcome : Outcome
-  pub carried : IsCarriedOut l old new request x outcome
+  pub carried : IsCarriedOut l old new before after request x outcome
   pub written : Appends s.before s.after (reply_of request.closes x.millis outcome)
 
 -- the same, with a part of its reply
-pub record IsWrittenInPart (l : Layout) (old new : Writer) (request : Request) (s : Sunk)
-    (x : Exchange) : Type 0 where
+pub record IsWrittenInPart (l : Layout) (old new : Writer) (before after : BoardState)
+    (request : Request) (s : Sunk) (x : Exchange) : Type 0 where
   pub stays : s.failed ≤ s.fails
   pub rose : Rose s.failed s.fails
   pub outcome : Outcome
-  pub carried : IsCarriedOut l old new request x outcome
+  pub carried : IsCarriedOut l old new before after request x outcome
   pub written : AppendsPrefix s.before s.after (reply_of request.closes x.millis outcome)
 
 -- a beginning of it was carried out, and nothing is written
-pub record IsLeftOff (l : Layout) (old new : Writer) (request : Request) (s : Sunk) : Type 0 where
-  pub begun : Begins (cleared old) new (request_course l request)
+pub record IsLeftOff (l : Layout) (old new : Writer) (before after : BoardState)
+    (request : Request) (s : Sunk) : Type 0 where
+  pub begun : IsBroken l old new before after request
   pub written : s.after ≡ s.before
   pub fails : s.fails ≡ s.failed
 
 -- how a request was carried out and its reply written
-abbrev pub IsReplied : Layout → Writer → Writer → Request → Sunk → OneEnd → Type 0
-IsReplied l old new request s (Served x) =
-    (request.closes ≡ false) × IsWritten l old new request s x
-IsReplied l old new request s (Last x) =
-    (request.closes ≡ true) × IsWritten l old new request s x
-IsReplied l old new request s (Over e None) =
-    (e ≡ end.OutOfMemory) × IsLeftOff l old new request s
-IsReplied l old new request s (Over e (Some x)) =
-    (e ≡ end.WriteFault) × IsWrittenInPart l old new request s x
+abbrev pub IsReplied : Layout → Writer → Writer → BoardState → BoardState → Request → Sunk → OneEnd
+    → Type 0
+IsReplied l old new before after request s (Served x) =
+    (request.closes ≡ false) × IsWritten l old new before after request s x
+IsReplied l old new before after request s (Last x) =
+    (request.closes ≡ true) × IsWritten l old new before after request s x
+IsReplied l old new before after request s (Over e None) =
+    (e ≡ end.OutOfMemory) × IsLeftOff l old new before after request s
+IsReplied l old new before after request s (Over e (Some x)) =
+    (e ≡ end.WriteFault) × IsWrittenInPart l old new before after request s x
 
 -- the exchange of one message that was served, if there is one
 abbrev pub exchanges_in : OneEnd → List Exchange

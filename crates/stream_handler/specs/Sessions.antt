@@ -16,7 +16,9 @@ use Rattle.form_request.specs.declared.plan.Stage.TheVariants as stage
 use Rattle.form_request.specs.declared.reading.After.{After}
 use Rattle.form_request.specs.declared.reading.After.TheVariants.{Rest}
 use Rattle.form_request.specs.declared.reading.Message.{Message}
-use Rattle.stream_handler.specs.Exchanges.{Answer, AreSound, messages_of, exchanges_of, replies_of, reply_to, looks_of, owns_of}
+use Rattle.stream_handler.specs.Asks.{ask_of}
+use Rattle.stream_handler.specs.Boards.{BoardState, MayAsk}
+use Rattle.stream_handler.specs.Exchanges.{Answer, AreSound, BoardsAlong, messages_of, exchanges_of, replies_of, reply_to, looks_of, owns_of}
 use Rattle.stream_handler.specs.Passing.{Passes, front_text, said}
 use Rattle.stream_handler.specs.Refusals.{refusal_reply}
 use Rattle.stream_handler.specs.Requests.{request_course}
@@ -29,17 +31,25 @@ use Rattle.stream_handler.specs.declared.exchange.Exchange.{Exchange}
 use Rattle.stream_handler.specs.declared.outcome.Outcome.{Outcome}
 
 -- a connection: where its stream of requests stands, what its source has left and its sink has
--- written, where they tell it, and how often each has failed
+-- written, where they tell it, how often each has failed, and the board of daemons
 pub record Wire : Type 0 where
   pub held : Held
   pub left : Option (List ℕ)
   pub reads : ℕ
   pub written : Option (List ℕ)
   pub writes : ℕ
+  pub board : BoardState
 
-abbrev pub wire : Held → Option (List ℕ) → ℕ → Option (List ℕ) → ℕ → Wire
-wire held left reads written writes =
-    record { held = held; left = left; reads = reads; written = written; writes = writes }
+abbrev pub wire : Held → Option (List ℕ) → ℕ → Option (List ℕ) → ℕ → BoardState → Wire
+wire held left reads written writes board =
+    record {
+      held = held;
+      left = left;
+      reads = reads;
+      written = written;
+      writes = writes;
+      board = board;
+    }
 
 -- these bytes were taken from the source, where it tells what it has left
 abbrev pub Came : Option (List ℕ) → Option (List ℕ) → List ℕ → Type 0
@@ -93,10 +103,11 @@ pub record IsServed (l : Layout) (old new : Wire) (w v : Writer) (answers : List
   pub passed : Passed l.names old new (messages_of answers) false
   pub written : Appends old.written new.written (replies_of answers)
   pub exchanged : Exchanged l w v answers
+  pub boards : BoardsAlong l old.board answers new.board
   pub recorded : record_of v ≡ nothing
 
 -- a request was begun behind these exchanges: its message is read, nothing of its reply is written,
--- and what was done is a beginning of its course, as the record says
+-- what was done is a beginning of its course, as the record says, and the board was asked or not
 pub record IsBegun (l : Layout) (old new : Wire) (w v : Writer) (answers : List Answer)
     (rest : Record) : Type 0 where
   pub message : Message
@@ -111,9 +122,13 @@ pub record IsBegun (l : Layout) (old new : Wire) (w v : Writer) (answers : List 
   pub own : rest.own ≡ own_of accesses
   pub looked : (cell : ℕ)
       → get_or v.looks cell 0 ≡ get_or mid.looks cell 0 + looks_at cell (marks_of accesses)
+  pub told : Outcome
   pub left : Course Outcome
-  pub followed : Follows w.me v.seen (counts mid.seen) (request_course l message.request)
+  pub followed : Follows w.me v.seen (counts mid.seen) (request_course l told message.request)
       accesses left (counts v.seen)
+  pub board : BoardState
+  pub boards : BoardsAlong l old.board answers board
+  pub asked : MayAsk (ask_of l.names message.request) board new.board
 
 -- the last of these requests asked to close, and nothing is read behind it
 abbrev pub IsClosed : List Answer → Held → Type 0
@@ -185,11 +200,12 @@ WireEnds names old new answers end.WriteFault =
     × (IsStuck names old new answers ⊎ IsCutOff names old new answers)
 WireEnds names old new answers end.OutOfMemory = IsLost names old new answers
 
--- it ended so, and the writer did what its exchanges say and no more
+-- it ended so, and the writer and the board did what the exchanges say and no more
 pub record IsSettled (l : Layout) (old new : Wire) (w v : Writer) (answers : List Answer)
     (rest : Record) (e : End) : Type 0 where
   pub ends : WireEnds l.names old new answers e
   pub exchanged : Exchanged l w v answers
+  pub boards : BoardsAlong l old.board answers new.board
   pub recorded : rest ≡ nothing
 
 -- why a connection was served no further behind these answers, and what stands then
@@ -226,6 +242,7 @@ pub record IsAnsweredInPart (l : Layout) (old new : Wire) (w v : Writer) (x : Ex
   pub exchange : answer.exchange ≡ x
   pub cut : IsCutOff l.names old new (answer ∷ [])
   pub exchanged : Exchanged l w v (answer ∷ [])
+  pub boards : BoardsAlong l old.board (answer ∷ []) new.board
   pub recorded : record_of v ≡ nothing
 
 -- none was answered whole
@@ -269,11 +286,11 @@ pub record IsBounded (l : Layout) (old new : Wire) (w v : Writer) (exchanges : L
   pub within : IsWithin session.answers e
 
 -- the same of a connection that began with nothing, by what is known of its ends
-abbrev pub IsConnection : Layout → Wire → Option (List ℕ) → ℕ → Option (List ℕ) → ℕ → Writer → Writer
-    → SessionEnd → Type 0
-IsConnection l old left reads written writes w v s =
+abbrev pub IsConnection : Layout → Wire → Option (List ℕ) → ℕ → Option (List ℕ) → ℕ → BoardState
+    → Writer → Writer → SessionEnd → Type 0
+IsConnection l old left reads written writes board w v s =
     (held : Held)
-    × IsBounded l old (wire held left reads written writes) w v s.exchanges s.rest s.end
+    × IsBounded l old (wire held left reads written writes board) w v s.exchanges s.rest s.end
     × (record_of v ≡ nothing)
 
 -- at each cell, what the writer appended is just what the own marks of the exchanges, and then

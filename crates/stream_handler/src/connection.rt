@@ -1,10 +1,12 @@
 // The serving of a whole connection.
 ghost use Rattle.std.specs.Prelude.{◌≡◌, ◌<◌, ◌++◌, vec_capacity, vec_len};
 ghost use Rattle.form_request.specs.Streams.{begun};
+ghost use Rattle.stream_handler.specs.Boards.{board_state};
 ghost use Rattle.stream_handler.specs.Sessions.{IsBounded, IsConnection, RecordsSteps, nothing, record_of, wire};
 ghost use Rattle.stream_handler.specs.Serving.{end_of, exchanges_in};
 
 use crate::{End, Exchange, Exchanges, OneEnd, SessionEnd, serve_one};
+use daemon_board::Daemons;
 use form_request::Requests;
 use io_edge::{Gate, Sink, Source};
 use std::alloc::Global;
@@ -39,10 +41,11 @@ fn keep(exchanges: &mut Vec<Exchange>, one: OneEnd) -> Option<End>
 }
 
 // Serves the requests of a connection until it is over, or as many as it has at most.
-fn serve_all<T: Turns, R: Threads + Sync, S: Source, K: Sink, G: Gate>(
+fn serve_all<T: Turns, D: Daemons, R: Threads + Sync, S: Source, K: Sink, G: Gate>(
     alloc: Global,
     rt: &R,
     site: &mut T,
+    board: &mut D,
     requests: &mut Requests,
     source: &mut S,
     sink: &mut K,
@@ -51,9 +54,9 @@ fn serve_all<T: Turns, R: Threads + Sync, S: Source, K: Sink, G: Gate>(
     requires { record_of (T.writer site.old) ≡ nothing }
     ensures served { IsBounded (T.layout site.old)
         (wire requests.old (S.left source.old) (S.faults source.old) (K.written sink.old)
-        (K.faults sink.old))
+        (K.faults sink.old) (board_state (D.shown board.old) (D.answers board.old)))
         (wire requests.new (S.left source.new) (S.faults source.new) (K.written sink.new)
-        (K.faults sink.new)) (T.writer site.old) (T.writer site.new) result.0.items
+        (K.faults sink.new) (board_state (D.shown board.new) (D.answers board.new))) (T.writer site.old) (T.writer site.new) result.0.items
         (record_of (T.writer site.new)) result.1 }
     ensures layout { T.layout site.new ≡ T.layout site.old }
 {
@@ -62,7 +65,7 @@ fn serve_all<T: Turns, R: Threads + Sync, S: Source, K: Sink, G: Gate>(
         if exchanges.reserve(1).is_err() {
             return (exchanges, End::OutOfMemory);
         }
-        let one = serve_one(alloc, rt, site, requests, source, sink, gate);
+        let one = serve_one(alloc, rt, site, board, requests, source, sink, gate);
         if let Some(end) = keep(&mut exchanges, one) {
             return (exchanges, end);
         }
@@ -71,24 +74,26 @@ fn serve_all<T: Turns, R: Threads + Sync, S: Source, K: Sink, G: Gate>(
 }
 
 /// Serves a connection to its end. At most 10,000 requests are answered.
-pub fn serve_connection<T: Turns, R: Threads + Sync, S: Source, K: Sink, G: Gate>(
+pub fn serve_connection<T: Turns, D: Daemons, R: Threads + Sync, S: Source, K: Sink, G: Gate>(
     alloc: Global,
     rt: &R,
     site: &mut T,
+    board: &mut D,
     source: &mut S,
     sink: &mut K,
     gate: &G,
 ) -> SessionEnd
     ensures session { IsConnection (T.layout site.old)
         (wire begun (S.left source.old) (S.faults source.old) (K.written sink.old)
-        (K.faults sink.old)) (S.left source.new) (S.faults source.new) (K.written sink.new)
-        (K.faults sink.new) (T.writer site.old) (T.writer site.new) result }
+        (K.faults sink.old) (board_state (D.shown board.old) (D.answers board.old)))
+        (S.left source.new) (S.faults source.new) (K.written sink.new) (K.faults sink.new)
+        (board_state (D.shown board.new) (D.answers board.new)) (T.writer site.old) (T.writer site.new) result }
     ensures recorded { RecordsSteps (T.writer site.old) (T.writer site.new) result }
     ensures layout { T.layout site.new ≡ T.layout site.old }
 {
     let _ = site.take_record();
     let mut requests = Requests::begin(alloc);
-    let (exchanges, end) = serve_all(alloc, rt, site, &mut requests, source, sink, gate);
+    let (exchanges, end) = serve_all(alloc, rt, site, board, &mut requests, source, sink, gate);
     SessionEnd {
         exchanges: Exchanges::from_vec(exchanges),
         end,

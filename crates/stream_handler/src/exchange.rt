@@ -1,10 +1,10 @@
 // What requests did, and the answer to one.
 ghost use Rattle.std.specs.Prelude.{◌≡◌, IfOk, IfErr};
-ghost use Rattle.exchange_rules.specs.Following.{Begins, cleared};
-ghost use Rattle.stream_handler.specs.Exchanges.{IsAnswered};
-ghost use Rattle.stream_handler.specs.Requests.{request_course};
+ghost use Rattle.stream_handler.specs.Boards.{board_state};
+ghost use Rattle.stream_handler.specs.Exchanges.{IsAnswered, IsBroken};
 
 use crate::run_request;
+use daemon_board::Daemons;
 use form_request::Request;
 use io_edge::Gate;
 use shard_versions::{CutMarks, OwnMarks};
@@ -34,21 +34,24 @@ pub struct Answered {
 
 /// Carries out a request, which is dropped. The site's record begins anew, and is the exchange's at
 /// the end. Where memory is wanting, what was done so far stands in the record. All times are 0.
-pub fn answer<T: Turns, R: Threads + Sync, G: Gate>(
+pub fn answer<T: Turns, D: Daemons, R: Threads + Sync, G: Gate>(
     alloc: Global,
     rt: &R,
     site: &mut T,
+    board: &mut D,
     request: Request,
     gate: &G,
 ) -> Result<Answered, Memory>
     ensures ok { IfOk result (IsAnswered (T.layout site.old) (T.writer site.old)
-        (T.writer site.new) request) }
-    ensures err { IfErr result (λ _. Begins (cleared (T.writer site.old)) (T.writer site.new)
-        (request_course (T.layout site.old) request)) }
+        (T.writer site.new) (board_state (D.shown board.old) (D.answers board.old))
+        (board_state (D.shown board.new) (D.answers board.new)) request) }
+    ensures err { IfErr result (λ _. IsBroken (T.layout site.old) (T.writer site.old)
+        (T.writer site.new) (board_state (D.shown board.old) (D.answers board.old))
+        (board_state (D.shown board.new) (D.answers board.new)) request) }
     ensures layout { T.layout site.new ≡ T.layout site.old }
 {
     let _ = site.take_record();
-    let outcome = run_request(alloc, rt, site, &request, gate)?;
+    let outcome = run_request(alloc, rt, site, board, &request, gate)?;
     let reply = outcome.reply(alloc, request.closes, 0)?;
     let record = site.take_record();
     let exchange = Exchange {

@@ -5,9 +5,14 @@ ghost use Rattle.expr_check.specs.Views.{tree_of};
 ghost use Rattle.expr_check.specs.declared.roots.Roots.TheVariants.{All, Plain};
 ghost use Rattle.expr_text.specs.Reading.{expression_of};
 ghost use Rattle.expr_types.specs.Plain.{IsPlain};
-ghost use Rattle.stream_handler.specs.Requests.{expression_course, plain_course, stream_course};
+ghost use Rattle.expr_types.specs.ExprTree.{operator_in};
+ghost use Rattle.stream_handler.specs.Asks.{daemon_of, expression_ask, root_ask, stream_ask};
+ghost use Rattle.stream_handler.specs.Boards.{IsAsked, board_state};
+ghost use Rattle.stream_handler.specs.Requests.{CarriedWith, deed_course, expression_course, plain_course, root_or_told, stream_course};
 
 use crate::Outcome;
+use crate::starting::{daemon_of, start};
+use daemon_board::Daemons;
 use expr_check::{Checked, Roots};
 use expr_text::{TextFault, read_checked};
 use io_edge::Gate;
@@ -58,7 +63,7 @@ pub fn run_plain_expression<T: Turns, R: Threads + Sync, G: Gate>(
     }
 }
 
-// What an expression does at the site.
+// What an expression that isn't put on a board does at the site.
 fn carry_out<T: Turns, R: Threads + Sync, G: Gate>(
     alloc: Global,
     rt: &R,
@@ -67,7 +72,7 @@ fn carry_out<T: Turns, R: Threads + Sync, G: Gate>(
     gate: &G,
 ) -> Result<Outcome, Memory>
     ensures course { Carried (T.writer site.old) (T.writer site.new)
-        (expression_course (T.layout site.old) (Ok (tree_of checked.now))) result }
+        (deed_course (T.layout site.old) (tree_of checked.now)) result }
     ensures layout { T.layout site.new ≡ T.layout site.old }
 {
     let done = run_deed(alloc, rt, site, checked, gate)?;
@@ -77,39 +82,73 @@ fn carry_out<T: Turns, R: Threads + Sync, G: Gate>(
     })
 }
 
-/// What the bytes of an expression do at the site, or the exception of their first fault.
-pub fn run_expression<T: Turns, R: Threads + Sync, G: Gate>(
+// What an expression does, at the site or at the board.
+fn run_checked<T: Turns, D: Daemons, R: Threads + Sync, G: Gate>(
     alloc: Global,
     rt: &R,
     site: &mut T,
+    board: &mut D,
+    checked: Checked,
+    gate: &G,
+) -> Result<Outcome, Memory>
+    ensures course { CarriedWith (T.writer site.old) (T.writer site.new) (λ told.
+        root_or_told (T.layout site.old) told (tree_of checked)
+        (daemon_of (operator_in (tree_of checked)))) result }
+    ensures asked { IsAsked (root_ask (tree_of checked) (daemon_of (operator_in (tree_of checked))))
+        (board_state (D.shown board.old) (D.answers board.old))
+        (board_state (D.shown board.new) (D.answers board.new)) result }
+    ensures layout { T.layout site.new ≡ T.layout site.old }
+{
+    let found = daemon_of(alloc, checked.expr())?;
+    match found {
+        Some(daemon) => start(alloc, board, daemon, checked),
+        None => carry_out(alloc, rt, site, &checked, gate),
+    }
+}
+
+/// What the bytes of an expression do at the site, or the exception of their first fault. A daemon
+/// is put on the board, where it runs from now on.
+pub fn run_expression<T: Turns, D: Daemons, R: Threads + Sync, G: Gate>(
+    alloc: Global,
+    rt: &R,
+    site: &mut T,
+    board: &mut D,
     bytes: &[u8],
     gate: &G,
 ) -> Result<Outcome, Memory>
-    ensures course { Carried (T.writer site.old) (T.writer site.new)
-        (expression_course (T.layout site.old)
+    ensures course { CarriedWith (T.writer site.old) (T.writer site.new) (λ told.
+        expression_course (T.layout site.old) told
         (expression_of All (T.layout site.old).names bytes.now)) result }
+    ensures asked { IsAsked (expression_ask (expression_of All (T.layout site.old).names bytes.now))
+        (board_state (D.shown board.old) (D.answers board.old))
+        (board_state (D.shown board.new) (D.answers board.new)) result }
     ensures layout { T.layout site.new ≡ T.layout site.old }
 {
     match read_checked(alloc, site.names(), bytes, Roots::All) {
-        Ok(checked) => carry_out(alloc, rt, site, &checked, gate),
+        Ok(checked) => run_checked(alloc, rt, site, board, checked, gate),
         Err(TextFault::Told(text)) => Ok(Outcome::exception(alloc, text)),
         Err(TextFault::OutOfMemory) => Err(Memory::OutOfMemory),
     }
 }
 
-pub(crate) fn run_stream<T: Turns, R: Threads + Sync, G: Gate>(
+pub(crate) fn run_stream<T: Turns, D: Daemons, R: Threads + Sync, G: Gate>(
     alloc: Global,
     rt: &R,
     site: &mut T,
+    board: &mut D,
     expr: Option<&str>,
     gate: &G,
 ) -> Result<Outcome, Memory>
-    ensures course { Carried (T.writer site.old) (T.writer site.new)
-        (stream_course (T.layout site.old) (option_map (λ s. s.now) expr.entry)) result }
+    ensures course { CarriedWith (T.writer site.old) (T.writer site.new) (λ told.
+        stream_course (T.layout site.old) told (option_map (λ s. s.now) expr.entry)) result }
+    ensures asked { IsAsked
+        (stream_ask (T.layout site.old).names (option_map (λ s. s.now) expr.entry))
+        (board_state (D.shown board.old) (D.answers board.old))
+        (board_state (D.shown board.new) (D.answers board.new)) result }
     ensures layout { T.layout site.new ≡ T.layout site.old }
 {
     match expr {
-        Some(text) => run_expression(alloc, rt, site, text.as_bytes(), gate),
+        Some(text) => run_expression(alloc, rt, site, board, text.as_bytes(), gate),
         None => {
             let text = Text::of(alloc, "MissingParam stream expr")?;
             Ok(Outcome::exception(alloc, text))

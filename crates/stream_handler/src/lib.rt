@@ -1,6 +1,7 @@
 //! Requests, carried out at a site and answered.
 #![tactic(auto)]
 
+mod action;
 mod connection;
 mod ending;
 mod exchange;
@@ -11,6 +12,7 @@ mod refusal;
 mod request;
 mod response;
 mod serve;
+mod starting;
 #[cfg(test)]
 mod tests;
 mod update;

@@ -1,14 +1,20 @@
 // Requests, carried out at a site.
-ghost use Rattle.std.specs.Prelude.{◌≡◌, ◌<◌, IfOk, option_map};
-ghost use Rattle.topic_book.specs.Fitness.{shards_of};
+ghost use Rattle.std.specs.Prelude.{◌≡◌, ◌<◌, IfOk, codes, option_map};
 ghost use Rattle.exchange_rules.specs.Calls.{Carried};
+ghost use Rattle.form_request.specs.Params.{first_value};
+ghost use Rattle.json_text.specs.Updates.{update_in};
+ghost use Rattle.topic_book.specs.Fitness.{shards_of};
+ghost use Rattle.stream_handler.specs.Asks.{acted_ask, ask_of, handled_ask};
+ghost use Rattle.stream_handler.specs.Boards.{IsAsked, board_state};
 ghost use Rattle.stream_handler.specs.Refusals.{refusal};
-ghost use Rattle.stream_handler.specs.Requests.{handled, is_true, request_course};
+ghost use Rattle.stream_handler.specs.Requests.{CarriedWith, acted_course, handled, is_true, request_course, update_course};
 
 use crate::Outcome;
+use crate::action::act;
 use crate::expression::run_stream;
 use crate::refusal::refusal_text;
 use crate::update::run_update;
+use daemon_board::Daemons;
 use form_request::{Handler, Request};
 use io_edge::Gate;
 use std::alloc::Global;
@@ -26,31 +32,69 @@ fn is_true(value: Option<&str>) -> bool
     }
 }
 
-// What a request does at a collection that is there.
-fn handle<T: Turns, R: Threads + Sync, G: Gate>(
+// What an action does at the board, or where there is none an expression.
+fn run_acted<T: Turns, D: Daemons, R: Threads + Sync, G: Gate>(
     alloc: Global,
     rt: &R,
     site: &mut T,
+    board: &mut D,
+    request: &Request,
+    gate: &G,
+) -> Result<Outcome, Memory>
+    ensures course { CarriedWith (T.writer site.old) (T.writer site.new) (λ told.
+        acted_course (T.layout site.old) told request.now.params
+        (first_value (codes "action") request.now.params)) result }
+    ensures asked { IsAsked (acted_ask (T.layout site.old).names request.now.params
+        (first_value (codes "action") request.now.params))
+        (board_state (D.shown board.old) (D.answers board.old))
+        (board_state (D.shown board.new) (D.answers board.new)) result }
+    ensures layout { T.layout site.new ≡ T.layout site.old }
+{
+    match request.param("action") {
+        Some(action) => act(alloc, board, action, request.param("id")),
+        None => run_stream(alloc, rt, site, board, request.param("expr"), gate),
+    }
+}
+
+// What an update does.
+fn run_updated<T: Turns>(alloc: Global, site: &mut T, request: &Request) -> Result<Outcome, Memory>
+    requires known { 0 < shards_of (T.layout site.old).names request.now.collection }
+    ensures course { Carried (T.writer site.old) (T.writer site.new)
+        (update_course (T.layout site.old) request.now.collection
+        (is_true (first_value (codes "commit") request.now.params)) (update_in request.now.body))
+        result }
+    ensures layout { T.layout site.new ≡ T.layout site.old }
+{
+    let commit = is_true(request.param("commit"));
+    run_update(
+        alloc,
+        site,
+        &request.collection,
+        commit,
+        request.body.as_slice(),
+    )
+}
+
+// What a request does at a collection that is there.
+fn handle<T: Turns, D: Daemons, R: Threads + Sync, G: Gate>(
+    alloc: Global,
+    rt: &R,
+    site: &mut T,
+    board: &mut D,
     request: &Request,
     gate: &G,
 ) -> Result<Outcome, Memory>
     requires known { 0 < shards_of (T.layout site.old).names request.now.collection }
-    ensures course { Carried (T.writer site.old) (T.writer site.new)
-        (handled (T.layout site.old) request.now request.now.handler) result }
+    ensures course { CarriedWith (T.writer site.old) (T.writer site.new) (λ told.
+        handled (T.layout site.old) told request.now request.now.handler) result }
+    ensures asked { IsAsked (handled_ask (T.layout site.old).names request.now request.now.handler)
+        (board_state (D.shown board.old) (D.answers board.old))
+        (board_state (D.shown board.new) (D.answers board.new)) result }
     ensures layout { T.layout site.new ≡ T.layout site.old }
 {
     match request.handler {
-        Handler::Stream => run_stream(alloc, rt, site, request.param("expr"), gate),
-        Handler::Update => {
-            let commit = is_true(request.param("commit"));
-            run_update(
-                alloc,
-                site,
-                &request.collection,
-                commit,
-                request.body.as_slice(),
-            )
-        }
+        Handler::Stream => run_acted(alloc, rt, site, board, request, gate),
+        Handler::Update => run_updated(alloc, site, request),
     }
 }
 
@@ -62,21 +106,26 @@ fn unknown(alloc: Global) -> Result<Outcome, Memory>
     Ok(Outcome::Refused { code: 404, msg })
 }
 
-/// What a request does at the site and is answered (Solr Reference Guide, "Streaming Expressions",
-/// the `/stream` handler, and "Indexing with Update Handlers"; texts of refusals own).
-pub fn run_request<T: Turns, R: Threads + Sync, G: Gate>(
+/// What a request does at the site or at the board and is answered (Solr Reference Guide, "Streaming
+/// Expressions", the `/stream` handler, and "Indexing with Update Handlers"; actions and texts of
+/// refusals own).
+pub fn run_request<T: Turns, D: Daemons, R: Threads + Sync, G: Gate>(
     alloc: Global,
     rt: &R,
     site: &mut T,
+    board: &mut D,
     request: &Request,
     gate: &G,
 ) -> Result<Outcome, Memory>
-    ensures course { Carried (T.writer site.old) (T.writer site.new)
-        (request_course (T.layout site.old) request.now) result }
+    ensures course { CarriedWith (T.writer site.old) (T.writer site.new) (λ told.
+        request_course (T.layout site.old) told request.now) result }
+    ensures asked { IsAsked (ask_of (T.layout site.old).names request.now)
+        (board_state (D.shown board.old) (D.answers board.old))
+        (board_state (D.shown board.new) (D.answers board.new)) result }
     ensures layout { T.layout site.new ≡ T.layout site.old }
 {
     if shards_of(site.names(), request.collection.as_str()) == 0 {
         return unknown(alloc);
     }
-    handle(alloc, rt, site, request, gate)
+    handle(alloc, rt, site, board, request, gate)
 }

@@ -1,10 +1,12 @@
 // The serving of a connection, a message at a time.
 ghost use Rattle.std.specs.Prelude.{◌≡◌};
+ghost use Rattle.stream_handler.specs.Boards.{board_state};
 ghost use Rattle.stream_handler.specs.Sessions.{IsOneEnd, wire};
 ghost use Rattle.stream_handler.specs.Serving.{IsReplied, sunk};
 
 use crate::waiting::next_request;
 use crate::{Answered, End, OneEnd, answer};
+use daemon_board::Daemons;
 use form_request::{Request, Requests};
 use io_edge::{Gate, Put, Sink, Source};
 use std::alloc::Global;
@@ -12,21 +14,23 @@ use std::thread::Threads;
 use stream_site::Turns;
 
 // Carries out a request and writes its reply.
-fn reply_to<T: Turns, R: Threads + Sync, K: Sink, G: Gate>(
+fn reply_to<T: Turns, D: Daemons, R: Threads + Sync, K: Sink, G: Gate>(
     alloc: Global,
     rt: &R,
     site: &mut T,
+    board: &mut D,
     request: Request,
     sink: &mut K,
     gate: &G,
 ) -> OneEnd
     ensures replied { IsReplied (T.layout site.old) (T.writer site.old) (T.writer site.new)
-        request (sunk (K.written sink.old) (K.written sink.new) (K.faults sink.old)
+        (board_state (D.shown board.old) (D.answers board.old))
+        (board_state (D.shown board.new) (D.answers board.new)) request (sunk (K.written sink.old) (K.written sink.new) (K.faults sink.old)
         (K.faults sink.new)) result }
     ensures layout { T.layout site.new ≡ T.layout site.old }
 {
     let closes = request.closes;
-    let Ok(answered) = answer(alloc, rt, site, request, gate) else {
+    let Ok(answered) = answer(alloc, rt, site, board, request, gate) else {
         return OneEnd::Over {
             end: End::OutOfMemory,
             unfinished: None,
@@ -45,10 +49,11 @@ fn reply_to<T: Turns, R: Threads + Sync, K: Sink, G: Gate>(
 
 /// Serves the next request of a connection. The site's record begins anew. What is held of the
 /// stream and what is taken from the source is read as one.
-pub fn serve_one<T: Turns, R: Threads + Sync, S: Source, K: Sink, G: Gate>(
+pub fn serve_one<T: Turns, D: Daemons, R: Threads + Sync, S: Source, K: Sink, G: Gate>(
     alloc: Global,
     rt: &R,
     site: &mut T,
+    board: &mut D,
     requests: &mut Requests,
     source: &mut S,
     sink: &mut K,
@@ -56,14 +61,14 @@ pub fn serve_one<T: Turns, R: Threads + Sync, S: Source, K: Sink, G: Gate>(
 ) -> OneEnd
     ensures served { IsOneEnd (T.layout site.old)
         (wire requests.old (S.left source.old) (S.faults source.old) (K.written sink.old)
-        (K.faults sink.old))
+        (K.faults sink.old) (board_state (D.shown board.old) (D.answers board.old)))
         (wire requests.new (S.left source.new) (S.faults source.new) (K.written sink.new)
-        (K.faults sink.new)) (T.writer site.old) (T.writer site.new) result }
+        (K.faults sink.new) (board_state (D.shown board.new) (D.answers board.new))) (T.writer site.old) (T.writer site.new) result }
     ensures layout { T.layout site.new ≡ T.layout site.old }
 {
     let _ = site.take_record();
     match next_request(alloc, site.names(), requests, source, sink) {
-        Ok(request) => reply_to(alloc, rt, site, request, sink, gate),
+        Ok(request) => reply_to(alloc, rt, site, board, request, sink, gate),
         Err(end) => OneEnd::Over {
             end,
             unfinished: None,

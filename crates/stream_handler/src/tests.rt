@@ -4,6 +4,7 @@
 use crate::{
     End, SessionEnd, run_expression, run_plain_expression, run_request, run_root, serve_connection,
 };
+use daemon_board::Board;
 use expr_check::Roots;
 use expr_text::read_checked;
 use form_request::{Handler, Param, Params, Request};
@@ -60,7 +61,8 @@ fn reply<R: Threads + Sync>(
     if !site.knows(&request.collection) {
         return Ok(None);
     }
-    let outcome = run_request(alloc, rt, site, &request, &NoGate)?;
+    let mut board = Board::empty(alloc);
+    let outcome = run_request(alloc, rt, site, &mut board, &request, &NoGate)?;
     Ok(Some(outcome.reply(alloc, request.closes, 0)?))
 }
 
@@ -166,7 +168,8 @@ fn expressions_are_answered(rt: HostRuntime) -> Result<(), Fail> {
     ];
     for (expr, docs) in cases {
         let mut site = site(alloc)?;
-        let outcome = run_expression(alloc, &rt, &mut site, expr.as_bytes(), &NoGate)?;
+        let mut board = Board::empty(alloc);
+        let outcome = run_expression(alloc, &rt, &mut site, &mut board, expr.as_bytes(), &NoGate)?;
         let body = outcome.body(alloc, 0)?;
         let wanted = format!(in alloc; "{{\"result-set\":{{\"docs\":[{docs}]}}}}")?;
         assert!(rt; body.as_slice() == wanted.as_bytes());
@@ -196,6 +199,79 @@ fn an_update_is_run_and_counted(rt: HostRuntime) -> Result<(), Fail> {
     Ok(())
 }
 
+// What the request to `/stream` with these parameters is answered, but for its head.
+fn asked<R: Threads + Sync>(
+    alloc: Global,
+    rt: &R,
+    site: &mut PlainSite,
+    board: &mut Board,
+    params: &[(&str, &str)],
+) -> Result<Bytes, Memory> {
+    let mut request = request(alloc, Handler::Stream, None, "")?;
+    for (name, value) in params {
+        let name = Text::of(alloc, name)?;
+        let value = Text::of(alloc, value)?;
+        request.params.push(Param { name, value })?;
+    }
+    let outcome = run_request(alloc, rt, site, board, &request, &NoGate)?;
+    outcome.body(alloc, 0)
+}
+
+const DAEMON: &str = "daemon(update(c,tuple(id=7)),id=\"x\",runInterval=\"5\")";
+
+#[test]
+fn the_board_is_asked(rt: HostRuntime) -> Result<(), Fail> {
+    let alloc = rt.alloc();
+    let mut site = site(alloc)?;
+    let mut board = Board::empty(alloc);
+    let cases: [(&[(&str, &str)], &str); 10] = [
+        (
+            &[("expr", DAEMON)],
+            "{\"DaemonOp\":\"started x\"},{\"EOF\":true,\"RESPONSE_TIME\":0}",
+        ),
+        (
+            &[("expr", DAEMON)],
+            "{\"EOF\":true,\"EXCEPTION\":\"DaemonTaken x\",\"RESPONSE_TIME\":0}",
+        ),
+        (
+            &[("action", "stop"), ("id", "x"), ("expr", "tuple(a=1)")],
+            "{\"DaemonOp\":\"stopped x\"},{\"EOF\":true,\"RESPONSE_TIME\":0}",
+        ),
+        (
+            &[("action", "list")],
+            "{\"id\":\"x\",\"iterations\":0,\"state\":\"STOPPED\"},\
+             {\"EOF\":true,\"RESPONSE_TIME\":0}",
+        ),
+        (
+            &[("action", "start"), ("id", "x")],
+            "{\"DaemonOp\":\"started x\"},{\"EOF\":true,\"RESPONSE_TIME\":0}",
+        ),
+        (
+            &[("action", "kill"), ("id", "x")],
+            "{\"DaemonOp\":\"killed x\"},{\"EOF\":true,\"RESPONSE_TIME\":0}",
+        ),
+        (
+            &[("action", "kill"), ("id", "x")],
+            "{\"EOF\":true,\"EXCEPTION\":\"UnknownDaemon x\",\"RESPONSE_TIME\":0}",
+        ),
+        (&[("action", "list")], "{\"EOF\":true,\"RESPONSE_TIME\":0}"),
+        (
+            &[("action", "stop")],
+            "{\"EOF\":true,\"EXCEPTION\":\"MissingParam stream id\",\"RESPONSE_TIME\":0}",
+        ),
+        (
+            &[("action", "run"), ("id", "x")],
+            "{\"EOF\":true,\"EXCEPTION\":\"BadParam stream action\",\"RESPONSE_TIME\":0}",
+        ),
+    ];
+    for (params, docs) in cases {
+        let body = asked(alloc, &rt, &mut site, &mut board, params)?;
+        let wanted = format!(in alloc; "{{\"result-set\":{{\"docs\":[{docs}]}}}}")?;
+        assert!(rt; body.as_slice() == wanted.as_bytes());
+    }
+    Ok(())
+}
+
 // What a connection of these bytes is served at a new site, seven bytes at a time.
 fn serve<R: Threads + Sync>(
     alloc: Global,
@@ -207,7 +283,16 @@ fn serve<R: Threads + Sync>(
     all.extend(bytes.as_bytes())?;
     let mut source = MemorySource::new(all, 7, Numbers::new(alloc));
     let mut sink = MemorySink::new(alloc, Numbers::new(alloc));
-    let served = serve_connection(alloc, rt, &mut site, &mut source, &mut sink, &NoGate);
+    let mut board = Board::empty(alloc);
+    let served = serve_connection(
+        alloc,
+        rt,
+        &mut site,
+        &mut board,
+        &mut source,
+        &mut sink,
+        &NoGate,
+    );
     Ok((served, sink))
 }
 

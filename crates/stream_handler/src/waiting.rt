@@ -1,5 +1,6 @@
 // What is done until the next request of a connection is whole.
 ghost use Rattle.std.specs.Prelude.{◌≡◌, Bool, Some};
+ghost use Rattle.stream_handler.specs.Boards.{BoardState};
 ghost use Rattle.stream_handler.specs.Sessions.{Wire, wire};
 ghost use Rattle.stream_handler.specs.Waiting.{Continues, IsWaiting, Reads, ReadsCount, Refuses, TurnsTo, WaitsFor, WritesCount, turn_of};
 
@@ -85,9 +86,9 @@ fn make_turn<S: Source, K: Sink>(
 ) -> Turn
     ensures { (start : Wire) (told : Bool)
         → IsWaiting names.now start (wire requests.old (S.left source.old) (S.faults source.old)
-        (K.written sink.old) (K.faults sink.old)) told
+        (K.written sink.old) (K.faults sink.old) start.board) told
         → TurnsTo names.now start (wire requests.new (S.left source.new) (S.faults source.new)
-        (K.written sink.new) (K.faults sink.new)) result }
+        (K.written sink.new) (K.faults sink.new) start.board) result }
 {
     match requests.next(names) {
         Ok(Step100::Whole(request)) => Turn::Whole(request),
@@ -107,10 +108,11 @@ pub(crate) fn next_request<S: Source, K: Sink>(
     source: &mut S,
     sink: &mut K,
 ) -> Result<Request, End>
-    ensures { WaitsFor names.now (wire requests.old (S.left source.old) (S.faults source.old)
-        (K.written sink.old) (K.faults sink.old))
+    ensures { (board : BoardState)
+        → WaitsFor names.now (wire requests.old (S.left source.old) (S.faults source.old)
+        (K.written sink.old) (K.faults sink.old) board)
         (wire requests.new (S.left source.new) (S.faults source.new) (K.written sink.new)
-        (K.faults sink.new)) result }
+        (K.faults sink.new) board) result }
 {
     for _ in 0..u64::MAX {
         match make_turn(alloc, names, requests, source, sink) {
