@@ -1,4 +1,5 @@
--- How expressions and actions are carried out at the site or at the board, from what their parts did.
+-- How expressions and actions are carried out at the site or at the board, from what their parts
+-- did.
 use Rattle.std.proofs.Common.{◌≡◌, ◌<◌, true, refl, sym, ap, subst, ◌∙◌, rules, tests}
 use Rattle.std.specs.Prelude.{List, Option, Some, None, Result, Ok, Err, IfOk, codes, nat_lt}
 use Rattle.tuple_values.specs.Document.{ByteList}
@@ -103,7 +104,8 @@ module _ (l : Layout) (given : Option ByteList) (bytes : ByteList) (is : given �
 -- a parameter that isn't there asks nothing
 pub missing_asked : (l : Layout) (given : Option ByteList) (b : BoardState)
     (r : Result Outcome Memory) → given ≡ None → IsAsked (stream_ask l.names given) b b r
-missing_asked l given b r none = nothing_of (stream_ask l.names given) b r (ap (stream_ask l.names) none)
+missing_asked l given b r none =
+    nothing_of (stream_ask l.names given) b r (ap (stream_ask l.names) none)
 
 module _ (l : Layout) (params : List Param) (given : Option ByteList) where
   -- an action in the parameters

@@ -163,7 +163,8 @@ pub answered_of : {l m : Layout} {w u end new : Writer} {before after : BoardSta
     → a.exchange.marks ≡ end.marks → a.exchange.own ≡ end.own
     → a.reply ≡ reply_of r.closes a.exchange.millis o → a.exchange.millis ≡ 0
     → IsAnswered l w new before after r a
-answered_of {l} {m} {w} {u} {end} {new} {before} {after} {r} {a} {o} fresh same went says rest marks own reply now =
+answered_of {l} {m} {w} {u} {end} {new} {before} {after} {r} {a} {o} fresh same went says rest
+    marks own reply now =
     let k : Answers (cleared w) end (request_course l o r) o =
     subst (λ (x : Layout). Answers (cleared w) end (request_course x o r) o) same
     (subst (λ (x : Writer). Answers x end (request_course m o r) o) fresh went) in

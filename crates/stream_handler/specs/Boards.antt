@@ -1,5 +1,5 @@
--- What is asked of a board of daemons, and what the board says to it (own; Solr Reference Guide, "Stream
--- Decorator Reference", daemon). All times are 0.
+-- What is asked of a board of daemons, and what the board says to it (own; Solr Reference Guide,
+-- "Stream Decorator Reference", daemon). All times are 0.
 use Rattle.std.specs.Prelude.{ℕ, ◌≡◌, ◌++◌, ◌⊎◌, Bool, List, [], ◌∷◌, Option, None, Result, Ok, Err, codes}
 use Rattle.tuple_values.specs.Document.{ByteList, Doc, text}
 use Rattle.tuple_values.specs.declared.memory.Memory.{Memory}
@@ -25,9 +25,9 @@ pub record BoardState : Type 0 where
 abbrev pub board_state : Option Shown → Answers → BoardState
 board_state shown answers = record { shown = shown; answers = answers }
 
--- what is asked of a board: nothing, the list of its daemons, that the daemon with an id is stopped,
--- runs again or is removed, or that an expression is run under an id from now on, with this rest
--- after each run, to the first run that reads nothing or on and on
+-- what is asked of a board: nothing, the list of its daemons, that the daemon with an id is
+-- stopped, runs again or is removed, or that an expression is run under an id from now on, with so
+-- much rest after each run, to the first run that reads nothing or on and on
 pub data Ask : Type 0 where
   nothing : Ask
   lists : Ask

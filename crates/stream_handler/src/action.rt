@@ -106,7 +106,8 @@ fn ask_for<D: Daemons>(board: &mut D, what: Change, id: &str) -> Result<(), Boar
 
 // Changes a daemon of the board, or says that there is none with the id.
 fn make<D: Daemons>(alloc: Global, board: &mut D, what: Change, id: &str) -> Result<Outcome, Memory>
-    ensures { IsAsked (change_ask what id.now) (board_state (D.shown board.old) (D.answers board.old))
+    ensures { IsAsked (change_ask what id.now)
+        (board_state (D.shown board.old) (D.answers board.old))
         (board_state (D.shown board.new) (D.answers board.new)) result }
 {
     let done = op_done(alloc, what.word(), id)?;

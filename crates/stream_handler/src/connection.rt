@@ -56,7 +56,8 @@ fn serve_all<T: Turns, D: Daemons, R: Threads + Sync, S: Source, K: Sink, G: Gat
         (wire requests.old (S.left source.old) (S.faults source.old) (K.written sink.old)
         (K.faults sink.old) (board_state (D.shown board.old) (D.answers board.old)))
         (wire requests.new (S.left source.new) (S.faults source.new) (K.written sink.new)
-        (K.faults sink.new) (board_state (D.shown board.new) (D.answers board.new))) (T.writer site.old) (T.writer site.new) result.0.items
+        (K.faults sink.new) (board_state (D.shown board.new) (D.answers board.new)))
+        (T.writer site.old) (T.writer site.new) result.0.items
         (record_of (T.writer site.new)) result.1 }
     ensures layout { T.layout site.new ≡ T.layout site.old }
 {
@@ -87,7 +88,8 @@ pub fn serve_connection<T: Turns, D: Daemons, R: Threads + Sync, S: Source, K: S
         (wire begun (S.left source.old) (S.faults source.old) (K.written sink.old)
         (K.faults sink.old) (board_state (D.shown board.old) (D.answers board.old)))
         (S.left source.new) (S.faults source.new) (K.written sink.new) (K.faults sink.new)
-        (board_state (D.shown board.new) (D.answers board.new)) (T.writer site.old) (T.writer site.new) result }
+        (board_state (D.shown board.new) (D.answers board.new))
+        (T.writer site.old) (T.writer site.new) result }
     ensures recorded { RecordsSteps (T.writer site.old) (T.writer site.new) result }
     ensures layout { T.layout site.new ≡ T.layout site.old }
 {

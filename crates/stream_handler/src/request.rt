@@ -106,9 +106,9 @@ fn unknown(alloc: Global) -> Result<Outcome, Memory>
     Ok(Outcome::Refused { code: 404, msg })
 }
 
-/// What a request does at the site or at the board and is answered (Solr Reference Guide, "Streaming
-/// Expressions", the `/stream` handler, and "Indexing with Update Handlers"; actions and texts of
-/// refusals own).
+/// What a request does at the site or asks of the board, and is answered (Solr Reference Guide,
+/// "Streaming Expressions", the `/stream` handler, and "Indexing with Update Handlers"; actions and
+/// texts of refusals own).
 pub fn run_request<T: Turns, D: Daemons, R: Threads + Sync, G: Gate>(
     alloc: Global,
     rt: &R,

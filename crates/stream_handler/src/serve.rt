@@ -25,8 +25,9 @@ fn reply_to<T: Turns, D: Daemons, R: Threads + Sync, K: Sink, G: Gate>(
 ) -> OneEnd
     ensures replied { IsReplied (T.layout site.old) (T.writer site.old) (T.writer site.new)
         (board_state (D.shown board.old) (D.answers board.old))
-        (board_state (D.shown board.new) (D.answers board.new)) request (sunk (K.written sink.old) (K.written sink.new) (K.faults sink.old)
-        (K.faults sink.new)) result }
+        (board_state (D.shown board.new) (D.answers board.new)) request
+        (sunk (K.written sink.old) (K.written sink.new) (K.faults sink.old) (K.faults sink.new))
+        result }
     ensures layout { T.layout site.new ≡ T.layout site.old }
 {
     let closes = request.closes;
@@ -63,7 +64,8 @@ pub fn serve_one<T: Turns, D: Daemons, R: Threads + Sync, S: Source, K: Sink, G:
         (wire requests.old (S.left source.old) (S.faults source.old) (K.written sink.old)
         (K.faults sink.old) (board_state (D.shown board.old) (D.answers board.old)))
         (wire requests.new (S.left source.new) (S.faults source.new) (K.written sink.new)
-        (K.faults sink.new) (board_state (D.shown board.new) (D.answers board.new))) (T.writer site.old) (T.writer site.new) result }
+        (K.faults sink.new) (board_state (D.shown board.new) (D.answers board.new)))
+        (T.writer site.old) (T.writer site.new) result }
     ensures layout { T.layout site.new ≡ T.layout site.old }
 {
     let _ = site.take_record();

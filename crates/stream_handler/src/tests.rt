@@ -199,18 +199,19 @@ fn an_update_is_run_and_counted(rt: HostRuntime) -> Result<(), Fail> {
     Ok(())
 }
 
-// What the request to `/stream` with these parameters is answered, but for its head.
+// The body of what a request to `/stream` is answered, with a parameter and perhaps an id.
 fn asked<R: Threads + Sync>(
     alloc: Global,
     rt: &R,
     site: &mut PlainSite,
     board: &mut Board,
-    params: &[(&str, &str)],
+    param: (&str, &str),
+    id: Option<&str>,
 ) -> Result<Bytes, Memory> {
-    let mut request = request(alloc, Handler::Stream, None, "")?;
-    for (name, value) in params {
-        let name = Text::of(alloc, name)?;
-        let value = Text::of(alloc, value)?;
+    let mut request = request(alloc, Handler::Stream, Some(param), "")?;
+    if let Some(id) = id {
+        let name = Text::of(alloc, "id")?;
+        let value = Text::of(alloc, id)?;
         request.params.push(Param { name, value })?;
     }
     let outcome = run_request(alloc, rt, site, board, &request, &NoGate)?;
@@ -224,50 +225,69 @@ fn the_board_is_asked(rt: HostRuntime) -> Result<(), Fail> {
     let alloc = rt.alloc();
     let mut site = site(alloc)?;
     let mut board = Board::empty(alloc);
-    let cases: [(&[(&str, &str)], &str); 10] = [
+    let cases = [
         (
-            &[("expr", DAEMON)],
-            "{\"DaemonOp\":\"started x\"},{\"EOF\":true,\"RESPONSE_TIME\":0}",
+            "expr",
+            DAEMON,
+            None,
+            "{\"DaemonOp\":\"started x\"},{\"EOF\":true,",
         ),
         (
-            &[("expr", DAEMON)],
-            "{\"EOF\":true,\"EXCEPTION\":\"DaemonTaken x\",\"RESPONSE_TIME\":0}",
+            "expr",
+            DAEMON,
+            None,
+            "{\"EOF\":true,\"EXCEPTION\":\"DaemonTaken x\",",
         ),
         (
-            &[("action", "stop"), ("id", "x"), ("expr", "tuple(a=1)")],
-            "{\"DaemonOp\":\"stopped x\"},{\"EOF\":true,\"RESPONSE_TIME\":0}",
+            "action",
+            "stop",
+            Some("x"),
+            "{\"DaemonOp\":\"stopped x\"},{\"EOF\":true,",
         ),
         (
-            &[("action", "list")],
-            "{\"id\":\"x\",\"iterations\":0,\"state\":\"STOPPED\"},\
-             {\"EOF\":true,\"RESPONSE_TIME\":0}",
+            "action",
+            "list",
+            None,
+            "{\"id\":\"x\",\"iterations\":0,\"state\":\"STOPPED\"},{\"EOF\":true,",
         ),
         (
-            &[("action", "start"), ("id", "x")],
-            "{\"DaemonOp\":\"started x\"},{\"EOF\":true,\"RESPONSE_TIME\":0}",
+            "action",
+            "start",
+            Some("x"),
+            "{\"DaemonOp\":\"started x\"},{\"EOF\":true,",
         ),
         (
-            &[("action", "kill"), ("id", "x")],
-            "{\"DaemonOp\":\"killed x\"},{\"EOF\":true,\"RESPONSE_TIME\":0}",
+            "action",
+            "kill",
+            Some("x"),
+            "{\"DaemonOp\":\"killed x\"},{\"EOF\":true,",
         ),
         (
-            &[("action", "kill"), ("id", "x")],
-            "{\"EOF\":true,\"EXCEPTION\":\"UnknownDaemon x\",\"RESPONSE_TIME\":0}",
+            "action",
+            "kill",
+            Some("x"),
+            "{\"EOF\":true,\"EXCEPTION\":\"UnknownDaemon x\",",
         ),
-        (&[("action", "list")], "{\"EOF\":true,\"RESPONSE_TIME\":0}"),
+        ("action", "list", None, "{\"EOF\":true,"),
         (
-            &[("action", "stop")],
-            "{\"EOF\":true,\"EXCEPTION\":\"MissingParam stream id\",\"RESPONSE_TIME\":0}",
+            "action",
+            "stop",
+            None,
+            "{\"EOF\":true,\"EXCEPTION\":\"MissingParam stream id\",",
         ),
         (
-            &[("action", "run"), ("id", "x")],
-            "{\"EOF\":true,\"EXCEPTION\":\"BadParam stream action\",\"RESPONSE_TIME\":0}",
+            "action",
+            "run",
+            Some("x"),
+            "{\"EOF\":true,\"EXCEPTION\":\"BadParam stream action\",",
         ),
     ];
-    for (params, docs) in cases {
-        let body = asked(alloc, &rt, &mut site, &mut board, params)?;
-        let wanted = format!(in alloc; "{{\"result-set\":{{\"docs\":[{docs}]}}}}")?;
-        assert!(rt; body.as_slice() == wanted.as_bytes());
+    for (name, value, id, docs) in cases {
+        let body = asked(alloc, &rt, &mut site, &mut board, (name, value), id)?;
+        let wanted = format!(in alloc;
+            "{{\"result-set\":{{\"docs\":[{docs}\"RESPONSE_TIME\":0}}]}}}}"
+        )?;
+        assert!(rt; body.as_slice() == wanted.as_bytes(), "{name}={value}");
     }
     Ok(())
 }

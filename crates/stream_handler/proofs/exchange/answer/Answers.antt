@@ -5,8 +5,8 @@ use Rattle.stream_handler.proofs.exchange.answer.Goals as goal
 pub returns-in_err-outcome-clause-err : goal.returns-in_err-outcome-clause-err
 returns-in_err-outcome-clause-err g c =
     is_broken c.from_residual.result
-    (broken_of c.in_err-outcome.ensures.course.0 c.take_record.ensures.rest c.take_record.ensures.layout
-    c.in_err-outcome.ensures.course.1 c.in_err-outcome.ensures.asked)
+    (broken_of c.in_err-outcome.ensures.course.0 c.take_record.ensures.rest
+    c.take_record.ensures.layout c.in_err-outcome.ensures.course.1 c.in_err-outcome.ensures.asked)
 
 pub returns-in_err-reply-clause-err : goal.returns-in_err-reply-clause-err
 returns-in_err-reply-clause-err g c =

@@ -48,5 +48,5 @@ pub returns-in-Err-OutOfMemory-clause-course : goal.returns-in-Err-OutOfMemory-c
 returns-in-Err-OutOfMemory-clause-course g c =
     let l = g.T.Turns.layout c.args.site.now in
     nothing_carried (g.T.Turns.writer c.args.site.now)
-    (λ told. expression_course l told (expression_of All l.names c.args.bytes.now)) (Err OutOfMemory)
-    OutOfMemory refl
+    (λ told. expression_course l told (expression_of All l.names c.args.bytes.now))
+    (Err OutOfMemory) OutOfMemory refl

@@ -7,28 +7,32 @@ use Rattle.stream_handler.proofs.request.run_acted.Goals as goal
 pub returns-in-Some-clause-course : goal.returns-in-Some-clause-course
 returns-in-Some-clause-course g c =
     let params = c.args.request.now.params in
+    let is = sym c.param.ensures ∙ ap (option_map (λ (s : Bor (List ℕ)). s.now)) c.in-Some.is in
     action_done (g.T.Turns.layout c.args.site.now) params (first_value (codes "action") params)
     (g.T.Turns.writer c.args.site.now) c.in-Some.action.now
     (option_map (λ (s : Bor (List ℕ)). s.now) c.param-in-Some.result) c.act.result
-    (sym c.param.ensures ∙ ap (option_map (λ (s : Bor (List ℕ)). s.now)) c.in-Some.is) c.param-in-Some.ensures c.act.ensures.fault
+    is c.param-in-Some.ensures c.act.ensures.fault
 
 pub returns-in-Some-clause-asked : goal.returns-in-Some-clause-asked
 returns-in-Some-clause-asked g c =
     let params = c.args.request.now.params in
+    let is = sym c.param.ensures ∙ ap (option_map (λ (s : Bor (List ℕ)). s.now)) c.in-Some.is in
     action_asked (g.T.Turns.layout c.args.site.now) params (first_value (codes "action") params) _ _
     c.in-Some.action.now (option_map (λ (s : Bor (List ℕ)). s.now) c.param-in-Some.result)
-    c.act.result (sym c.param.ensures ∙ ap (option_map (λ (s : Bor (List ℕ)). s.now)) c.in-Some.is) c.param-in-Some.ensures c.act.ensures.asked
+    c.act.result is c.param-in-Some.ensures c.act.ensures.asked
 
 pub returns-in-None-clause-course : goal.returns-in-None-clause-course
 returns-in-None-clause-course g c =
     let params = c.args.request.now.params in
+    let is = sym c.param.ensures ∙ ap (option_map (λ (s : Bor (List ℕ)). s.now)) c.in-None.is in
     stream_done (g.T.Turns.layout c.args.site.now) params (first_value (codes "action") params) _ _
     (option_map (λ (s : Bor (List ℕ)). s.now) c.param-in-None.result) c.run_stream.result
-    (sym c.param.ensures ∙ ap (option_map (λ (s : Bor (List ℕ)). s.now)) c.in-None.is) c.param-in-None.ensures c.run_stream.ensures.course
+    is c.param-in-None.ensures c.run_stream.ensures.course
 
 pub returns-in-None-clause-asked : goal.returns-in-None-clause-asked
 returns-in-None-clause-asked g c =
     let params = c.args.request.now.params in
+    let is = sym c.param.ensures ∙ ap (option_map (λ (s : Bor (List ℕ)). s.now)) c.in-None.is in
     stream_asked (g.T.Turns.layout c.args.site.now) params (first_value (codes "action") params) _ _
     (option_map (λ (s : Bor (List ℕ)). s.now) c.param-in-None.result) c.run_stream.result
-    (sym c.param.ensures ∙ ap (option_map (λ (s : Bor (List ℕ)). s.now)) c.in-None.is) c.param-in-None.ensures c.run_stream.ensures.asked
+    is c.param-in-None.ensures c.run_stream.ensures.asked

@@ -32,7 +32,8 @@ returns-in-Ok g c =
 pub returns : goal.returns
 returns g c =
     let d = c.args.daemon in
-    let said = subst (λ (id : ByteList). IfOk c.start_refused.result (IsStartTold id (Err c.in-Err.fault)))
+    let said =
+    subst (λ (id : ByteList). IfOk c.start_refused.result (IsStartTold id (Err c.in-Err.fault)))
     (c.as_str-in-Err.ensures ∙ c.in_ok-name.ensures) c.start_refused.ensures in
     start_refused _ _ d.id (expr_of c.args.checked) d.interval d.terminate c.in-Err.fault
     c.start_refused.result said c.in-Err.ensures.told c.in-Err.ensures.counted
