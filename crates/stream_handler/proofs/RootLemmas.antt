@@ -17,8 +17,7 @@ use Rattle.form_request.specs.Params.{first_value}
 use Rattle.form_request.specs.declared.request.Param.{Param}
 use Rattle.form_request.specs.declared.request.Request.{Request}
 use Rattle.stream_handler.specs.Asks.{action_read, acted_ask, ask_in, ask_of, daemon_of, expression_ask, handled_ask, root_ask, stream_ask}
-use Rattle.stream_handler.specs.Boards.{Ask, BoardState, IsAsked, nothing, starts}
-use Rattle.stream_handler.specs.Outcomes.{exception}
+use Rattle.stream_handler.specs.Boards.{BoardState, IsAsked, starts}
 use Rattle.stream_handler.specs.Requests.{CarriedWith, IsFaultTold, acted_course, action_course, deed_course, expression_course, handled, request_course, root_or_told, stream_course}
 use Rattle.stream_handler.specs.declared.outcome.Outcome.{Outcome}
 use Rattle.stream_handler.specs.declared.starting.NewDaemon.{NewDaemon}

@@ -1,6 +1,6 @@
 -- What a request asks of a board of daemons, and the faults of an action (own; Solr Reference
 -- Guide, "Streaming Expressions", the `/stream` handler, and "Stream Decorator Reference", daemon).
-use Rattle.std.specs.Prelude.{ℕ, List, Option, Some, None, Result, Ok, Err, bytes_eq, codes, nat_lt, if◌then◌else◌}
+use Rattle.std.specs.Prelude.{List, Option, Some, None, Result, Ok, Err, bytes_eq, codes, nat_lt, if◌then◌else◌}
 use Rattle.tuple_values.specs.Document.{ByteList}
 use Rattle.tuple_values.specs.declared.names.NameShards.{NameShards}
 use Rattle.topic_book.specs.Fitness.{shards_of}

@@ -1,6 +1,6 @@
 -- What a request does at the cells and is answered, as a course (Solr Reference Guide, "Streaming
 -- Expressions" and "Indexing with Update Handlers"; texts of refusals own).
-use Rattle.std.specs.Prelude.{ℕ, ◌≡◌, ◌≢◌, ◌++◌, ◌||◌, Bool, false, List, [], Option, Some, None, Result, Ok, Err}
+use Rattle.std.specs.Prelude.{ℕ, ◌≡◌, ◌≢◌, ◌||◌, Bool, false, List, Option, Some, None, Result, Ok, Err}
 use Rattle.std.specs.Prelude.{bytes_eq, codes, nat_lt, if◌then◌else◌}
 use Rattle.tuple_values.specs.Document.{ByteList}
 use Rattle.exchange_rules.specs.Courses.{Course, ends, and_then}

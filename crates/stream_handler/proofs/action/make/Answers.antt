@@ -2,7 +2,7 @@ use Rattle.std.proofs.Common.{ap, ◌∙◌}
 use Rattle.std.proofs.lemmas.Result.{err_from_is_err_and}
 use Rattle.std.specs.Prelude.{Ok, Err}
 use Rattle.stream_handler.specs.Asks.{change_ask}
-use Rattle.stream_handler.specs.Boards.{board_state, op_done}
+use Rattle.stream_handler.specs.Boards.{op_done}
 use Rattle.stream_handler.proofs.BoardLemmas.{changed, unasked}
 use Rattle.stream_handler.proofs.action.make.Goals as goal
 

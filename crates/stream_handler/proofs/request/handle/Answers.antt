@@ -1,9 +1,7 @@
 use Rattle.std.proofs.Common.{ap}
-use Rattle.std.specs.Prelude.{codes}
-use Rattle.form_request.specs.Params.{first_value}
 use Rattle.form_request.specs.declared.request.Handler.TheVariants.{Stream, Update}
 use Rattle.stream_handler.specs.Asks.{handled_ask}
-use Rattle.stream_handler.specs.Requests.{acted_course, handled}
+use Rattle.stream_handler.specs.Requests.{handled}
 use Rattle.stream_handler.proofs.BoardLemmas.{nothing_of, same_ask}
 use Rattle.stream_handler.proofs.CarriedLemmas.{carried_with, same_course}
 use Rattle.stream_handler.proofs.request.handle.Goals as goal
