@@ -1,0 +1,4 @@
+pub mod CourseLemmas
+pub mod LookLemmas
+pub mod TurnLemmas
+pub mod StepLemmas
