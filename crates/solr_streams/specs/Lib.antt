@@ -1,6 +1,7 @@
 pub mod Inputs
 pub mod Replies
 pub mod Evaluations
+pub mod Boards
 pub mod Scripts
 pub mod Commands
 pub mod Endings

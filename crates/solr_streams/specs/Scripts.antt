@@ -1,5 +1,6 @@
 -- What `script` leaves on output: the replies to the requests of its input, each carried out alone
--- over collections that begin empty (own).
+-- over collections and a board of daemons that begin empty. After each whole request every running
+-- daemon runs once, in the order in which they were put on the board (own).
 use Rattle.std.specs.Prelude.{◌≡◌, ℕ, ◌<◌, ◌⊎◌, Bool, false, List, [], ◌∷◌, ◌++◌, Option, Some}
 use Rattle.io_edge.specs.Edge.{Appends}
 use Rattle.tuple_values.specs.Document.{ByteList}
@@ -7,35 +8,63 @@ use Rattle.tuple_values.specs.declared.names.NameShards.{NameShards}
 use Rattle.exchange_rules.specs.Cells.{Log}
 use Rattle.exchange_rules.specs.Courses.{run_alone}
 use Rattle.exchange_rules.specs.Rows.{Layout}
+use Rattle.daemon_board.specs.Tickets.{Tickets, with_tickets}
+use Rattle.daemon_steps.specs.Steps.{steps_course}
 use Rattle.form_request.specs.Readings.{Reads}
 use Rattle.form_request.specs.Streams.{Held, begun}
 use Rattle.form_request.specs.declared.reading.After.{After}
 use Rattle.form_request.specs.declared.reading.After.TheVariants.{Refusal, Rest}
 use Rattle.form_request.specs.declared.reading.Message.{Message}
+use Rattle.stream_handler.specs.Asks.{ask_of}
 use Rattle.stream_handler.specs.Outcomes.{reply_of}
 use Rattle.stream_handler.specs.Passing.{Passes, front_text, said}
 use Rattle.stream_handler.specs.Refusals.{refusal_reply}
 use Rattle.stream_handler.specs.Requests.{request_course}
 use Rattle.stream_handler.specs.Sessions.{Came}
+use Rattle.stream_handler.specs.declared.outcome.Outcome.{Outcome}
+use Rattle.solr_streams.specs.Boards.{board_alone, no_tickets}
 use Rattle.solr_streams.specs.Replies.{layout, logs_at_start}
 
+-- what the board is after a message, and what it answers where the message's request asks it
+abbrev pub asked_alone : Layout → Tickets → Message → Tickets × Outcome
+asked_alone l b m = board_alone (ask_of l.names m.request) b
+
+-- what the request of a message leaves in the logs and is answered, carried out alone over these
+-- logs and this board
+abbrev pub answered_alone : Layout → List Log → Tickets → Message → List Log × Outcome
+answered_alone l logs b m =
+    run_alone 1 logs (request_course l (asked_alone l b m).1 m.request)
+
+-- the logs and the board once every running daemon of the board ran once, one after another in the
+-- order in which they were put on it
+abbrev pub after_daemons : Layout → List Log → Tickets → List Log × Tickets
+after_daemons l logs b =
+    let ran = run_alone 1 logs (steps_course l b.tickets) in (ran.0, with_tickets b ran.1)
+
+-- the logs and the board after a message and after the daemons that run then
+abbrev pub after_message : Layout → List Log → Tickets → Message → List Log × Tickets
+after_message l logs b m =
+    after_daemons l (answered_alone l logs b m).0 (asked_alone l b m).0
+
 -- the replies to these messages, each with `100 Continue` before it where it asks for that: one
--- writer carries out their requests alone, in order, each look is at the whole log, and all times
--- are 0
-abbrev pub replies_alone : Layout → List Log → List Message → ByteList
-replies_alone l logs [] = []
-replies_alone l logs (m ∷ messages) =
-    (said m.asks ++ reply_of m.request.closes 0 (run_alone 1 logs (request_course l m.request)).1)
-    ++ replies_alone l (run_alone 1 logs (request_course l m.request)).0 messages
+-- writer carries out their requests alone, in order, and after each whole request every running
+-- daemon runs once, in the order in which they were put on the board; each look is at the whole
+-- log, and all times are 0
+abbrev pub replies_alone : Layout → List Log → Tickets → List Message → ByteList
+replies_alone l logs b [] = []
+replies_alone l logs b (m ∷ messages) =
+    (said m.asks ++ reply_of m.request.closes 0 (answered_alone l logs b m).1)
+    ++ replies_alone l (after_message l logs b m).0 (after_message l logs b m).1 messages
 
 -- what is written of what stands behind the last message
 abbrev pub tail_text : After → ByteList
 tail_text (Refusal status) = refusal_reply status
 tail_text (Rest held asks) = said asks
 
--- the replies over new collections
+-- the replies over new collections and a new board
 abbrev pub replies_over : List NameShards → List Message → ByteList
-replies_over names messages = replies_alone (layout names) (logs_at_start names) messages
+replies_over names messages =
+    replies_alone (layout names) (logs_at_start names) no_tickets messages
 
 -- all that a script writes whose input holds these messages and then this
 abbrev pub script_text : List NameShards → List Message → After → ByteList

@@ -3,6 +3,8 @@
 
 #[cfg(test)]
 mod apart_tests;
+#[cfg(test)]
+mod daemon_tests;
 mod ending;
 mod eval;
 mod input;

@@ -30,7 +30,7 @@ fn failing_calls(alloc: Global, call: Option<u64>) -> Result<Numbers, Memory> {
     Ok(calls)
 }
 
-fn words_of(alloc: Global, words: &str) -> Result<Words, Memory> {
+pub(crate) fn words_of(alloc: Global, words: &str) -> Result<Words, Memory> {
     let mut list = Words::new(alloc);
     for word in words.split_whitespace() {
         list.push(Text::of(alloc, word)?)?;

@@ -1,13 +1,17 @@
-// The command `script`: requests over collections that begin empty.
+// The command `script`: requests over collections and a board of daemons that begin empty.
 ghost use Rattle.std.specs.Prelude.{◌≡◌, Some};
 ghost use Rattle.command_words.specs.declared.command.Command.TheVariants.{Script};
-ghost use Rattle.stream_handler.specs.Sessions.{nothing, record_of, wire};
+ghost use Rattle.daemon_board.specs.Rising.{IsKept};
+ghost use Rattle.daemon_board.specs.Tickets.{tickets_of};
+ghost use Rattle.stream_handler.specs.Sessions.{wire};
 ghost use Rattle.stream_site.specs.Plains.{layout_of, writer_of};
 ghost use Rattle.solr_streams.specs.Endings.{HasRisen, IsEndingOf, Writes};
-ghost use Rattle.solr_streams.specs.Serving.{HasServed, ending_of};
+ghost use Rattle.solr_streams.specs.Serving.{HasRound, HasRun, HasServed, ending_of, state_of};
 
 use crate::ending::Ending;
 use crate::eval::SHARD_LIMIT;
+use daemon_board::Board;
+use daemon_steps::run_daemons;
 use form_request::Requests;
 use io_edge::{Gate, Sink, Source};
 use std::alloc::Global;
@@ -30,34 +34,85 @@ fn ending_of(end: End) -> Ending
     }
 }
 
+// Runs every running daemon once. The serving goes on as it would have, unless memory was wanting.
+fn run_board<R: Threads + Sync, G: Gate>(
+    alloc: Global,
+    rt: &R,
+    site: &mut PlainSite,
+    board: &mut Board,
+    gate: &G,
+    next: Option<End>,
+) -> Option<End>
+    requires { IsKept board.old.shown }
+    ensures ran { HasRun (layout_of site.old) (writer_of site.old) (writer_of site.new)
+        (tickets_of board.old.shown) (tickets_of board.new.shown) next result }
+    ensures kept { IsKept board.new.shown }
+    ensures layout { layout_of site.new ≡ layout_of site.old }
+{
+    match run_daemons(alloc, rt, site, board, gate) {
+        Ok(()) => next,
+        Err(_) => Some(End::OutOfMemory),
+    }
+}
+
+// Serves one message, and then runs the daemons. Answers how the serving ends, unless it goes on.
+fn serve_round<R: Threads + Sync, I: Source, O: Sink, G: Gate>(
+    alloc: Global,
+    rt: &R,
+    site: &mut PlainSite,
+    board: &mut Board,
+    requests: &mut Requests,
+    input: &mut I,
+    output: &mut O,
+    gate: &G,
+) -> Option<End>
+    requires { IsKept board.old.shown }
+    ensures round { HasRound (layout_of site.old)
+        (wire requests.old (I.left input.old) (I.faults input.old) (O.written output.old)
+        (O.faults output.old) (state_of board.old))
+        (wire requests.new (I.left input.new) (I.faults input.new) (O.written output.new)
+        (O.faults output.new) (state_of board.new)) (writer_of site.old) (writer_of site.new)
+        board.old board.new result }
+    ensures kept { result ≡ None → IsKept board.new.shown }
+    ensures layout { layout_of site.new ≡ layout_of site.old }
+{
+    match serve_one(alloc, rt, site, board, requests, input, output, gate) {
+        OneEnd::Served(_) => run_board(alloc, rt, site, board, gate, None),
+        OneEnd::Last(_) => run_board(alloc, rt, site, board, gate, Some(End::Closed)),
+        OneEnd::Over { end, .. } => Some(end),
+    }
+}
+
 // Serves the messages of input until it is over.
 fn serve<R: Threads + Sync, I: Source, O: Sink, G: Gate>(
     alloc: Global,
     rt: &R,
     site: &mut PlainSite,
+    board: &mut Board,
     requests: &mut Requests,
     input: &mut I,
     output: &mut O,
     gate: &G,
 ) -> End
-    requires { record_of (writer_of site.old) ≡ nothing }
+    requires { IsKept board.old.shown }
     ensures { HasServed (layout_of site.old)
         (wire requests.old (I.left input.old) (I.faults input.old) (O.written output.old)
-        (O.faults output.old))
+        (O.faults output.old) (state_of board.old))
         (wire requests.new (I.left input.new) (I.faults input.new) (O.written output.new)
-        (O.faults output.new)) (writer_of site.old) (writer_of site.new) result }
+        (O.faults output.new) (state_of board.new)) (writer_of site.old) (writer_of site.new)
+        board.old board.new result }
 {
     for _ in 0..u64::MAX {
-        match serve_one(alloc, rt, site, requests, input, output, gate) {
-            OneEnd::Served(_) => {}
-            OneEnd::Last(_) => return End::Closed,
-            OneEnd::Over { end, .. } => return end,
+        match serve_round(alloc, rt, site, board, requests, input, output, gate) {
+            Some(end) => return end,
+            None => {}
         }
     }
     End::OutOfMemory
 }
 
 /// Carries out the requests that input holds, over these collections, and writes their replies.
+/// After each whole request every running daemon runs once.
 pub fn script<R: Threads + Sync, I: Source, O: Sink, G: Gate>(
     alloc: Global,
     rt: &R,
@@ -79,8 +134,18 @@ pub fn script<R: Threads + Sync, I: Source, O: Sink, G: Gate>(
     let Ok(mut site) = PlainSite::start(alloc, names, SHARD_LIMIT) else {
         return Ending::OutOfMemory;
     };
+    let mut board = Board::empty(alloc);
     let mut requests = Requests::begin(alloc);
-    let end = serve(alloc, rt, &mut site, &mut requests, input, output, gate);
+    let end = serve(
+        alloc,
+        rt,
+        &mut site,
+        &mut board,
+        &mut requests,
+        input,
+        output,
+        gate,
+    );
 
     // Its contract says that the site had no other writer.
     let _ = site.names();

@@ -1,24 +1,21 @@
 use Rattle.std.proofs.Common.{[], refl}
-use Rattle.stream_handler.proofs.ConnectionLemmas.{served_none}
-use Rattle.solr_streams.proofs.ServingLemmas.{has_closed, has_ended, has_more, has_stopped}
+use Rattle.solr_streams.proofs.ServingLemmas.{carried_none, round_more, served_more, served_stopped}
 use Rattle.solr_streams.proofs.script.serve.Goals as goal
 
 pub loop-init : goal.loop-init
-loop-init g c = ([], refl, served_none _ _ _ c.requires)
+loop-init g c = ([], refl, c.requires, carried_none _ _ _ _ refl)
 
-pub returns-in-Last : goal.returns-in-Last
-returns-in-Last g c =
-    has_closed _ _ c.loop.invariant.1 c.loop.invariant.2 _ c.in-Last.ensures.served
-
-pub returns-in-Over : goal.returns-in-Over
-returns-in-Over g c =
-    has_ended _ _ c.loop.invariant.1 c.loop.invariant.2 _ c.in-Over.unfinished
-    c.in-Over.ensures.served
+pub returns-in-Some : goal.returns-in-Some
+returns-in-Some g c =
+    served_more c.loop.invariant.1 c.loop.invariant.3 c.in-Some.ensures.round
 
 pub loop-preserved : goal.loop-preserved
 loop-preserved g c =
-    has_more _ _ c.loop.invariant.1 c.loop.invariant.2 _ c.in-Served.ensures.layout
-    c.in-Served.ensures.served
+    round_more c.loop.invariant.1 c.loop.invariant.3 c.in-None.ensures.layout
+    (c.in-None.ensures.kept refl) c.in-None.ensures.round
 
 pub returns : goal.returns
-returns g c = has_stopped c.loop.invariant.2
+returns g c = served_stopped _ _ _ _ _ _ _ _ c.loop.invariant.3
+
+pub serve_round-requires-after_bounds : goal.serve_round-requires-after_bounds
+serve_round-requires-after_bounds g c κs within = c.loop.invariant.2
