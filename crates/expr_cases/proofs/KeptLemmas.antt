@@ -1,23 +1,16 @@
 -- What every board keeps of its daemons, it keeps whatever it is asked.
-use Rattle.std.proofs.Common.{◌≡◌, Option, Some, sym, ap, subst, inl, inr}
+use Rattle.std.proofs.Common.{◌≡◌, Some, sym, ap, subst, inl, inr}
 use Rattle.std.specs.Prelude.{Result, Ok, Err, unwrap_or}
 use Rattle.tuple_values.specs.declared.memory.Memory.{Memory}
 use Rattle.daemon_board.specs.Boards.{Told}
-use Rattle.daemon_board.specs.Calls.{Lists, Starts, WhereTold}
-use Rattle.daemon_board.specs.Daemons.{Shown, fresh}
 use Rattle.daemon_board.specs.Rising.{IsKept}
-use Rattle.daemon_board.proofs.RisingLemmas.{kills-kept, resumes-kept, starts-kept, stops-kept}
-use Rattle.stream_handler.specs.Boards.{Ask, BoardState, IsAsked, Makes, Says, board_state, nothing, lists, stops, resumes, kills, starts}
-use Rattle.stream_handler.specs.declared.action.Change.TheVariants.{Stop, Start, Kill}
+use Rattle.daemon_board.proofs.RisingLemmas.{kills-kept, lists-kept, resumes-kept, starts-kept, stops-kept}
+use Rattle.stream_handler.specs.Boards.{Ask, BoardState, IsAsked, Says, board_state, nothing, lists, stops, resumes, kills, starts}
 use Rattle.stream_handler.specs.declared.outcome.Outcome.{Outcome}
 
 -- a board, as what is asked of it sees it
 abbrev pub state_of : Told → BoardState
 state_of b = board_state (Some b.shown) b.answers
-
--- what holds where a board tells what it holds
-where_told : (a b : Shown) (P : Shown → Shown → Type 0) → WhereTold (Some a) (Some b) P → P a b
-where_told a b P w = subst (P a) (sym (ap (λ (s : Option Shown). unwrap_or s a) w.1)) w.2
 
 -- a board that is the same
 same_kept : (a b : Told) → state_of b ≡ state_of a → IsKept a.shown → IsKept b.shown
@@ -28,22 +21,12 @@ same_kept a b same kept =
 said_kept : (a b : Told) (o : Outcome) (ask : Ask) → IsKept a.shown
     → Says ask (state_of a) (state_of b) o → IsKept b.shown
 said_kept a b o nothing kept s = same_kept a b s kept
-said_kept a b o lists kept s =
-    subst IsKept
-    (sym (where_told a.shown b.shown (Lists {E = Memory} (Ok s.docs)) s.told).1) kept
-said_kept a b o (stops id) kept s =
-    stops-kept id s.answer a.shown b.shown
-    (where_told a.shown b.shown (Makes Stop id s.answer) s.told) kept
-said_kept a b o (resumes id) kept s =
-    resumes-kept id 0 s.answer a.shown b.shown
-    (where_told a.shown b.shown (Makes Start id s.answer) s.told) kept
-said_kept a b o (kills id) kept s =
-    kills-kept id s.answer a.shown b.shown
-    (where_told a.shown b.shown (Makes Kill id s.answer) s.told) kept
+said_kept a b o lists kept s = lists-kept (Ok s.docs) a.shown b.shown s.told kept
+said_kept a b o (stops id) kept s = stops-kept id s.answer a.shown b.shown s.told kept
+said_kept a b o (resumes id) kept s = resumes-kept id 0 s.answer a.shown b.shown s.told kept
+said_kept a b o (kills id) kept s = kills-kept id s.answer a.shown b.shown s.told kept
 said_kept a b o (starts id t interval terminate) kept s =
-    starts-kept id s.expr interval terminate 0 s.answer a.shown b.shown
-    (where_told a.shown b.shown
-    (λ x y. Starts id (fresh x s.expr interval terminate 0) s.answer x y) s.told) kept
+    starts-kept id s.expr interval terminate 0 s.answer a.shown b.shown s.told kept
 
 -- a board that was asked, or for which memory was wanting
 pub asked_kept : (a b : Told) (ask : Ask) (r : Result Outcome Memory) → IsKept a.shown

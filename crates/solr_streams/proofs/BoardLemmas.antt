@@ -22,7 +22,7 @@ use Rattle.daemon_board.specs.Rising.{IsKept}
 use Rattle.daemon_board.specs.Tickets.{Tickets, drop_ticket, is_full_of, put_ticket, resume_ticket, stop_ticket, ticket_is_there, tickets_of}
 use Rattle.daemon_board.specs.declared.fault.BoardFault.{BoardFault}
 use Rattle.daemon_board.specs.declared.fault.BoardFault.TheVariants.{DaemonTaken, UnknownDaemon, BoardFull, OutOfMemory}
-use Rattle.daemon_board.proofs.RisingLemmas.{kills-kept, resumes-kept, starts-kept, stops-kept}
+use Rattle.daemon_board.proofs.RisingLemmas.{kills-kept, lists-kept, resumes-kept, starts-kept, stops-kept}
 use Rattle.daemon_board.proofs.TicketLemmas.{is_full_of-tickets_of, listed_tickets-tickets_of, ticket_is_there-tickets_of, tickets_of-put_on, tickets_of-removed, tickets_of-resumed, tickets_of-stopped}
 use Rattle.stream_handler.specs.Asks.{acted_ask, action_read, ask_in, ask_of, change_ask, change_of, change_read, daemon_of, expression_ask, handled_ask, root_ask, stream_ask}
 use Rattle.stream_handler.specs.Boards.{Ask, BoardState, IsStartTold, Makes, Says, change_told, change_word, nothing, lists, stops, resumes, kills, starts, op_done}
@@ -179,22 +179,12 @@ pub said_kept : (a b : Told) (o : Outcome) (ask : Ask) → IsKept a.shown
     → Says ask (state_of a) (state_of b) o → IsKept b.shown
 said_kept a b o nothing kept s =
     subst IsKept (sym (ap (λ (x : BoardState). unwrap_or x.shown a.shown) s)) kept
-said_kept a b o lists kept s =
-    subst IsKept
-    (sym (where_told a.shown b.shown (Lists {E = Memory} (Ok s.docs)) s.told).1) kept
-said_kept a b o (stops id) kept s =
-    stops-kept id s.answer a.shown b.shown
-    (where_told a.shown b.shown (Makes Stop id s.answer) s.told) kept
-said_kept a b o (resumes id) kept s =
-    resumes-kept id 0 s.answer a.shown b.shown
-    (where_told a.shown b.shown (Makes Start id s.answer) s.told) kept
-said_kept a b o (kills id) kept s =
-    kills-kept id s.answer a.shown b.shown
-    (where_told a.shown b.shown (Makes Kill id s.answer) s.told) kept
+said_kept a b o lists kept s = lists-kept (Ok s.docs) a.shown b.shown s.told kept
+said_kept a b o (stops id) kept s = stops-kept id s.answer a.shown b.shown s.told kept
+said_kept a b o (resumes id) kept s = resumes-kept id 0 s.answer a.shown b.shown s.told kept
+said_kept a b o (kills id) kept s = kills-kept id s.answer a.shown b.shown s.told kept
 said_kept a b o (starts id t interval terminate) kept s =
-    starts-kept id s.expr interval terminate 0 s.answer a.shown b.shown
-    (where_told a.shown b.shown
-    (λ x y. Starts id (fresh x s.expr interval terminate 0) s.answer x y) s.told) kept
+    starts-kept id s.expr interval terminate 0 s.answer a.shown b.shown s.told kept
 
 module _ (l : Layout) (o p : Outcome) where
   -- an action

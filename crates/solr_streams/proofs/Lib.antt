@@ -3,6 +3,8 @@ pub mod AloneLemmas
 pub mod BegunLemmas
 pub mod WritingLemmas
 pub mod CauseLemmas
-pub mod ScriptLemmas
+pub mod BoardLemmas
+pub mod RoundLemmas
 pub mod ServingLemmas
+pub mod ScriptLemmas
 pub mod LineLemmas
