@@ -13,7 +13,7 @@ use tuple_values::{Memory, Text, Tuple, Tuples, Value};
 
 /// What is made of one daemon.
 #[derive(Clone, Copy, Debug, PartialEq, Eq)]
-pub(crate) enum Change {
+pub enum Change {
     Stop,
     Start,
     Kill,

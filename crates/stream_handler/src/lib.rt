@@ -18,6 +18,7 @@ mod tests;
 mod update;
 mod waiting;
 
+pub use action::Change;
 pub use connection::serve_connection;
 pub use ending::{End, OneEnd, SessionEnd};
 pub use exchange::{Answered, Exchange, Exchanges, answer};
@@ -28,3 +29,4 @@ pub use request::run_request;
 pub use root_runs::{RootRun, run_root};
 pub use serve::serve_one;
 pub use shard_versions::{CutMark, CutMarks, OwnMark, OwnMarks};
+pub use starting::NewDaemon;

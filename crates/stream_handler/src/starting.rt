@@ -16,10 +16,10 @@ use tuple_values::{Memory, Text, TryCopy};
 /// A daemon that is to be put on the board: its id, how long it rests after a run in milliseconds,
 /// and whether it ends after a run that reads nothing.
 #[derive(Debug, Drop)]
-pub(crate) struct NewDaemon {
-    id: Text,
-    interval: u64,
-    terminate: bool,
+pub struct NewDaemon {
+    pub id: Text,
+    pub interval: u64,
+    pub terminate: bool,
 }
 
 /// The daemon that an expression is, if it is one.
