@@ -47,6 +47,11 @@ const KILL: &str = "GET /solr/src/stream?action=kill&id=d9 HTTP/1.1\r\n\r\n";
 const UNKNOWN: &str =
     "HTTP/1.1 200 OK\r\nContent-Type: application/json\r\nContent-Length: 87\r\n\r\n{\"result-set\":{\"docs\":[{\"EOF\":true,\"EXCEPTION\":\"UnknownDaemon d9\",\"RESPONSE_TIME\":0}]}}";
 
+const NEITHER: &str = "GET /solr/src/stream HTTP/1.1\r\n\r\n";
+
+const MISSING: &str =
+    "HTTP/1.1 200 OK\r\nContent-Type: application/json\r\nContent-Length: 95\r\n\r\n{\"result-set\":{\"docs\":[{\"EOF\":true,\"EXCEPTION\":\"MissingParam stream expr\",\"RESPONSE_TIME\":0}]}}";
+
 // Whether a script over a source, checkpoints and a destination answers these bytes so, where they
 // come in pieces of at most so many.
 fn runs<R: Threads + Sync>(
@@ -93,7 +98,17 @@ fn numbered(alloc: Global, count: u64) -> Result<Bytes, Fail> {
 #[test]
 fn a_daemon_runs_once_after_each_request(rt: HostRuntime) -> Result<(), Fail> {
     let alloc = rt.alloc();
-    let requests = [START, LIST, STOP, PUT_ONE_MORE, COUNT, RESUME, COUNT, KILL];
+    let requests = [
+        START,
+        LIST,
+        STOP,
+        PUT_ONE_MORE,
+        COUNT,
+        RESUME,
+        COUNT,
+        KILL,
+        NEITHER,
+    ];
     let replies = [
         UPDATED,
         STARTED,
@@ -104,6 +119,7 @@ fn a_daemon_runs_once_after_each_request(rt: HostRuntime) -> Result<(), Fail> {
         STARTED,
         DELIVERED_MORE,
         UNKNOWN,
+        MISSING,
     ];
     let wanted = joined(alloc, &replies)?;
     for most in [1, 10_000] {
