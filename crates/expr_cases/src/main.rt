@@ -2,12 +2,11 @@
 #![tactic(auto)]
 
 mod case;
+mod places;
 mod requests;
 mod sites;
 
-use case::answer;
-use daemon_board::Board;
-use sites::{named, start};
+use places::{answer_line, begin};
 use std::io::{self, BufRead, BufReader, BufWriter, Write};
 
 /// A shard's counted bytes are at most this, where no case says otherwise.
@@ -15,22 +14,12 @@ const LIMIT: u64 = 1_000_000;
 
 fn main(rt: HostRuntime) -> anyhow::Result<()> {
     let alloc = rt.alloc();
-    let mut site = start(alloc, LIMIT, "c=2 d=2")?;
-    let mut board = Board::empty(alloc);
+    let mut place = begin(alloc, LIMIT, "c=2 d=2")?;
     let mut out = BufWriter::new(alloc, io::writer(&rt))?;
     for line in BufReader::new(alloc, rt.reader())?.lines(alloc) {
         let line = line?;
-        match line.as_str().strip_prefix("site ") {
-            Some(words) => {
-                site = named(alloc, words)?;
-                board = Board::empty(alloc);
-                out.write_all(b"site")?;
-            }
-            None => {
-                let answer = answer(alloc, &rt, &mut site, &mut board, line.as_str())?;
-                out.write_all(answer.as_slice())?;
-            }
-        }
+        let answer = answer_line(alloc, &rt, &mut place, line.as_str())?;
+        out.write_all(answer.as_slice())?;
         out.write_all(b"\n")?;
     }
     out.flush()?;
