@@ -18,7 +18,7 @@ fn main(rt: HostRuntime) -> anyhow::Result<()> {
     let mut out = BufWriter::new(alloc, io::writer(&rt))?;
     for line in BufReader::new(alloc, rt.reader())?.lines(alloc) {
         let line = line?;
-        let answer = answer_line(alloc, &rt, &mut place, line.as_str())?;
+        let answer = answer_line(alloc, &rt, &mut *place, line.as_str())?;
         out.write_all(answer.as_slice())?;
         out.write_all(b"\n")?;
     }

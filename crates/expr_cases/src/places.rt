@@ -18,15 +18,16 @@ pub struct Place {
 }
 
 /// A new place with these collections, whose shards have this limit.
-pub fn begin(alloc: Global, limit: u64, words: &str) -> Result<Place, Memory>
+pub fn begin(alloc: Global, limit: u64, words: &str) -> Result<Box<Place>, Memory>
     requires { limit ≤ 268435456 }
-    ensures { IfOk result (λ place. IsKept place.board.shown) }
+    ensures { IfOk result (λ place. IsKept place.value.board.shown) }
 {
     let site = start(alloc, limit, words)?;
-    Ok(Place {
+    let place = Place {
         site,
         board: Board::empty(alloc),
-    })
+    };
+    Ok(Box::new(alloc, place)?)
 }
 
 // The place begins anew, where the limit stands first.

@@ -3,4 +3,4 @@ use Rattle.expr_cases.proofs.main.Given as goal
 
 -- the daemons of the board may run
 abbrev pub invariant-loop-line : goal.invariant-loop-line
-invariant-loop-line g l = IsKept l.place.board.shown
+invariant-loop-line g l = IsKept l.place.value.board.shown
