@@ -1,5 +1,4 @@
 pub mod TreeLemmas
-pub mod PlainLemmas
 pub mod GroupLemmas
 pub mod OrderLemmas
 pub mod JoinLemmas

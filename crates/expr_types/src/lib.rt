@@ -7,7 +7,6 @@ mod expr;
 mod item;
 mod joining;
 mod naming;
-mod not_yet;
 mod source_copies;
 #[cfg(test)]
 mod tests;
