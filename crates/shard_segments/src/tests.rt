@@ -52,7 +52,7 @@ fn slots_over_several_chunks_are_shared_and_found(rt: HostRuntime) -> Result<(),
     assert_eq!(rt; first.len(), 3000);
     assert_eq!(rt; first.get(2999).version, 2999);
     assert!(rt; first.get(2047).document.is_some());
-    let places = scan(alloc, &first, &From { version: 2998 })?;
+    let places = scan(alloc, &rt, &first, &From { version: 2998 })?;
     assert_eq!(rt; places.as_slice(), [2998, 2999].as_slice());
     Ok(())
 }
