@@ -3,6 +3,7 @@
 
 mod batch;
 mod part;
+mod scanned;
 mod search;
 #[cfg(test)]
 mod tests;

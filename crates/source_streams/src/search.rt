@@ -9,13 +9,15 @@ ghost use Rattle.source_streams.specs.Wants.{is_wanted, early_part, late_part};
 
 use crate::Part;
 use crate::part::keys_or_none;
+use crate::scanned::add_matching;
 use crate::wanted::Wanted;
 use expr_types::Expr;
-use shard_versions::{Cut, CutPart, Snapshot};
+use shard_versions::{Cut, CutPart};
 use sort_spec::{SortSpec, SortTerm, sort_lent};
 use std::alloc::Global;
 use std::collections::VecDeque;
-use std::marker::Model;
+use std::marker::{Model, Sync};
+use std::thread::Threads;
 use tuple_values::{FieldList, Memory, Text, TryCopy, Tuple};
 
 /// The tuples of a search that are still to come. A contract sees the list of them.
@@ -39,9 +41,16 @@ impl Model for SearchCursor {
 impl SearchCursor {
     /// The part's tuples of a search over a cut, which holds each shard of its collection: the
     /// matching documents, sorted by the search's sort and then by id, the first `rows`, each cut
-    /// to `fl`. Looks at each document once, takes some n log n comparisons of the n matching ones of
-    /// the part (of all parts where there are `rows`), and copies what it gives.
-    pub fn make(alloc: Global, search: &Expr, cut: &Cut, part: Part) -> Result<SearchCursor, Memory>
+    /// to `fl`. Looks at each document once, in several threads where there are many, takes some
+    /// n log n comparisons of the n matching ones of the part (of all parts where there are `rows`),
+    /// and copies what it gives.
+    pub fn make<R: Threads + Sync>(
+        alloc: Global,
+        rt: &R,
+        search: &Expr,
+        cut: &Cut,
+        part: Part,
+    ) -> Result<SearchCursor, Memory>
         requires search { IsSome (search_parts search.now) }
         requires part { part.index < part.of }
         ensures { IfOk result (λ cursor. cursor ≡ searched search.now cut.now part) }
@@ -64,7 +73,7 @@ impl SearchCursor {
             keys: keys_or_none(partition_keys.as_ref(), &none),
             part: early_part(part, *rows),
         };
-        let found = matching(alloc, &wanted, collection, cut.as_slice())?;
+        let found = matching(alloc, rt, &wanted, collection, cut.as_slice())?;
         let by = by_id(alloc, sort)?;
         let found = sort_lent(found, &by)?;
         let first = first_of(found.as_slice(), *rows);
@@ -81,27 +90,9 @@ impl SearchCursor {
     }
 }
 
-fn add_matching<'a>(
-    found: &mut Vec<&'a Tuple>,
-    wanted: &Wanted,
-    snapshot: &'a Snapshot,
-) -> Result<(), Memory>
-    ensures { OnOk result
-        (map (λ d. d.now) found.new.items ≡ map (λ d. d.now) found.old.items
-        ++ filter (is_wanted wanted.now.q.now.clauses wanted.now.fl.now wanted.now.keys.now
-        wanted.now.part) (map (λ d. d.1) snapshot.now.documents)) }
-{
-    for k in 0..snapshot.count() {
-        let document = snapshot.document(k);
-        if wanted.takes(document) {
-            found.push(document)?;
-        }
-    }
-    Ok(())
-}
-
-fn matching<'a>(
+fn matching<'a, R: Threads + Sync>(
     alloc: Global,
+    rt: &R,
     wanted: &Wanted,
     collection: &Text,
     cut: &'a [CutPart],
@@ -113,7 +104,7 @@ fn matching<'a>(
     let mut found = Vec::new(alloc);
     for part in cut {
         if part.collection.as_str() == collection.as_str() {
-            add_matching(&mut found, wanted, &part.snapshot)?;
+            add_matching(alloc, rt, &mut found, wanted, &part.snapshot)?;
         }
     }
     Ok(found)

@@ -6,7 +6,9 @@ use query_syntax::read_query;
 use shard_versions::{Cut, CutPart, Entry, ShardState, Snapshot, Step, are_storable};
 use sort_spec::{SortSpec, SortTerm};
 use std::alloc::Global;
+use std::marker::Sync;
 use std::test::Fail;
+use std::thread::Threads;
 use tuple_values::{FieldList, Memory, Text, Tuple, Value};
 
 // A document with its id and the field `n_i`.
@@ -47,7 +49,12 @@ fn push(alloc: Global, cut: &mut Cut, name: &str, documents: &[(&str, i64)]) -> 
 // Three shards of c, of which the second has no committed document, and one of another collection.
 fn cut(alloc: Global) -> Result<Cut, Fail> {
     let mut cut = Cut::new(alloc);
-    push(alloc, &mut cut, "c", &[("4", 1), ("7", 3), ("4", 2)])?;
+    push(
+        alloc,
+        &mut cut,
+        "c",
+        &[("4", 1), ("4", 9), ("4", 0), ("4", 5), ("7", 3), ("4", 2)],
+    )?;
     push(alloc, &mut cut, "c", &[])?;
     push(alloc, &mut cut, "d", &[("1", 1)])?;
     push(alloc, &mut cut, "c", &[("5", 2), ("6", 5), ("10", 2)])?;
@@ -89,24 +96,42 @@ fn ids(alloc: Global, mut cursor: SearchCursor) -> Result<String, Fail> {
 }
 
 // The tuples of an expression over a cut, where it is a search.
-fn cursor(alloc: Global, search: &Expr, cut: &Cut) -> Result<Option<SearchCursor>, Memory> {
+fn cursor<R: Threads + Sync>(
+    alloc: Global,
+    rt: &R,
+    search: &Expr,
+    cut: &Cut,
+) -> Result<Option<SearchCursor>, Memory> {
     match search {
-        Expr::Search { .. } => { Ok(Some(SearchCursor::make(alloc, search, cut, Part::whole())?)) }
+        Expr::Search { .. } => {
+            Ok(Some(SearchCursor::make(alloc, rt, search, cut, Part::whole())?))
+        }
         _ => Ok(None),
     }
 }
 
 // The ids that an expression gives over a cut.
-fn found_by(alloc: Global, search: &Expr, cut: &Cut) -> Result<String, Fail> {
-    match cursor(alloc, search, cut)? {
+fn found_by<R: Threads + Sync>(
+    alloc: Global,
+    rt: &R,
+    search: &Expr,
+    cut: &Cut,
+) -> Result<String, Fail> {
+    match cursor(alloc, rt, search, cut)? {
         Some(cursor) => ids(alloc, cursor),
         None => Ok(String::new(alloc)),
     }
 }
 
-fn found(alloc: Global, q: &str, rows: Option<u64>, cut: &Cut) -> Result<String, Fail> {
+fn found<R: Threads + Sync>(
+    alloc: Global,
+    rt: &R,
+    q: &str,
+    rows: Option<u64>,
+    cut: &Cut,
+) -> Result<String, Fail> {
     let search = search(alloc, q, rows)?;
-    found_by(alloc, &search, cut)
+    found_by(alloc, rt, &search, cut)
 }
 
 const FOUND: [(&str, Option<u64>, &str); 6] = [
@@ -123,7 +148,7 @@ fn a_search_sorts_what_matches_and_then_takes_rows(rt: HostRuntime) -> Result<()
     let alloc = rt.alloc();
     let cut = cut(alloc)?;
     for (q, rows, want) in FOUND {
-        let found = found(alloc, q, rows, &cut)?;
+        let found = found(alloc, &rt, q, rows, &cut)?;
         assert_eq!(rt; found.as_str(), want, "of {q}");
     }
     Ok(())
@@ -135,7 +160,7 @@ fn two_empty_shards_give_nothing(rt: HostRuntime) -> Result<(), Fail> {
     let mut cut = Cut::new(alloc);
     push(alloc, &mut cut, "c", &[])?;
     push(alloc, &mut cut, "c", &[])?;
-    let found = found(alloc, "*:*", None, &cut)?;
+    let found = found(alloc, &rt, "*:*", None, &cut)?;
     assert_eq!(rt; found.as_str(), "");
     Ok(())
 }

@@ -4,6 +4,7 @@ ghost use Rattle.source_streams.specs.Wants.{is_wanted};
 
 use crate::Part;
 use query_syntax::Query;
+use shard_segments::{DocTest, Slot};
 use tuple_values::{FieldList, Tuple};
 
 /// The documents that a query takes and whose cuts to the fields are of a part by the keys.
@@ -23,5 +24,18 @@ impl Wanted<'_> {
             self.now.part document.now }
     {
         self.q.matches(document) && self.part.holds(self.keys, self.fl, document)
+    }
+}
+
+impl DocTest for Wanted<'_> {
+    ghost use Rattle.source_streams.specs.Wants.{is_wanted_slot};
+
+    ghost meets = { λ w slot. is_wanted_slot w.q.now.clauses w.fl.now w.keys.now w.part slot };
+
+    fn holds(&self, slot: &Slot) -> bool {
+        match &slot.document {
+            Some(document) => self.takes(document.tuple()),
+            None => false,
+        }
     }
 }

@@ -7,7 +7,7 @@ use Rattle.source_streams.proofs.search.SearchCursor.make.Goals as goal
 
 pub returns : goal.returns
 unfolding search_list
-returns c =
+returns g c =
     let s = c.in-Search in
     rw (
       c.in_ok-rest.ensures,

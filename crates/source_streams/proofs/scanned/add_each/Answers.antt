@@ -4,8 +4,8 @@ use Rattle.std.specs.Borrow.{Bor}
 use Rattle.tuple_values.specs.declared.value.Tuple.{Tuple}
 use Rattle.source_streams.specs.Wants.{is_wanted}
 use Rattle.source_streams.proofs.FoundLemmas.{found_more, found_less}
-use Rattle.source_streams.proofs.search.add_matching.Goals as goal
-use Rattle.source_streams.proofs.search.add_matching.Goals.{then-takes+in_ok-push, else-takes}
+use Rattle.source_streams.proofs.scanned.add_each.Goals as goal
+use Rattle.source_streams.proofs.scanned.add_each.Goals.{then-takes+in_ok-push, else-takes}
 
 pub loop-k-preserved : goal.loop-k-preserved
 loop-k-preserved c =
