@@ -34,7 +34,7 @@ pub fn eval<R: Threads + Sync, G: Gate>(
 {
     let _expr = checked.expr();
     let feeds = fed_lists(alloc, rt, checked.parallels(), cut, gate)?;
-    let stream = open_stream(alloc, checked, cut, feeds, Part::whole())?;
+    let stream = open_stream(alloc, rt, checked, cut, feeds, Part::whole())?;
     drain(alloc, stream)
 }
 

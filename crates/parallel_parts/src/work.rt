@@ -38,7 +38,13 @@ fn jobs_among(alloc: Global, workers: u16) -> Result<Vec<Job>, Memory>
 }
 
 // The tuples of one part, counted from 0.
-fn tuples_of(alloc: Global, part: &ParallelPart, cut: &Cut, index: u16) -> Result<Tuples, Memory>
+fn tuples_of<R: Threads + Sync>(
+    alloc: Global,
+    rt: &R,
+    part: &ParallelPart,
+    cut: &Cut,
+    index: u16,
+) -> Result<Tuples, Memory>
     requires in_range { index < part.now.workers }
     requires split { IsSplit (part_tree part.now) }
     ensures { (keys : List ByteList) → keys_of (tree_of part.now.checked) ≡ Some keys
@@ -49,12 +55,18 @@ fn tuples_of(alloc: Global, part: &ParallelPart, cut: &Cut, index: u16) -> Resul
         index,
         of: part.workers,
     };
-    let stream = open_stream(alloc, &part.checked, cut, Feeds::new(alloc), of)?;
+    let stream = open_stream(alloc, rt, &part.checked, cut, Feeds::new(alloc), of)?;
     drain(alloc, stream)
 }
 
 // The work of one worker: it opens the stream of its part, drains it and drops it.
-fn work_part<G: Gate>(job: Job, part: &ParallelPart, cut: &Cut, gate: &G) -> Result<Tuples, Memory>
+fn work_part<R: Threads + Sync, G: Gate>(
+    rt: &R,
+    job: Job,
+    part: &ParallelPart,
+    cut: &Cut,
+    gate: &G,
+) -> Result<Tuples, Memory>
     requires in_range { job.index < part.now.workers }
     requires split { IsSplit (part_tree part.now) }
     ensures { (keys : List ByteList) → keys_of (tree_of part.now.checked) ≡ Some keys
@@ -63,7 +75,7 @@ fn work_part<G: Gate>(job: Job, part: &ParallelPart, cut: &Cut, gate: &G) -> Res
 {
     let Job { alloc, index } = job;
     gate.at(Point::WorkerStarts { part: index });
-    let tuples = tuples_of(alloc, part, cut, index);
+    let tuples = tuples_of(alloc, rt, part, cut, index);
     gate.at(Point::WorkerEnds { part: index });
     tuples
 }
@@ -102,7 +114,7 @@ pub(crate) fn worked<R: Threads + Sync, G: Gate>(
             ensures { (keys : List ByteList) → keys_of (tree_of part.entry.now.checked) ≡ Some keys
                 → IfOk result (λ tuples. tuples ≡ part_of job.index part.entry.now.workers keys
                 (list_of (λ c. documents_of c cut.entry.now) (tree_of part.entry.now.checked))) }
-        { work_part(job, part, cut, gate) },
+        { work_part(rt, job, part, cut, gate) },
     )?;
     all_given(alloc, results)
 }

@@ -38,6 +38,8 @@ use sort_spec::SortSpec;
 use source_streams::{Part, SearchCursor, TupleOnce};
 use std::alloc::Global;
 use std::collections::VecDeque;
+use std::marker::Sync;
+use std::thread::Threads;
 use tuple_values::{FieldList, Memory, Tuples};
 
 /// Lists of tuples with which a stream is fed: one for each outermost `parallel`, from the left to
@@ -48,8 +50,9 @@ pub type Feeds = Vec<Tuples>;
 /// shard of its collections. For each outermost `parallel` the stream is fed with the list that its
 /// input gives. Where there are several parts the expression has partition keys, by which the part
 /// is taken.
-pub fn open_stream(
+pub fn open_stream<R: Threads + Sync>(
     alloc: Global,
+    rt: &R,
     checked: &Checked,
     cut: &Cut,
     feeds: Feeds,
@@ -67,7 +70,7 @@ pub fn open_stream(
     ensures lives { IfOk result (λ stream. stream.2 ≡ false) }
 {
     let mut feeds = VecDeque::from(feeds);
-    let opened = open_expr(alloc, checked.expr(), cut, &mut feeds, part)?;
+    let opened = open_expr(alloc, rt, checked.expr(), cut, &mut feeds, part)?;
     Ok(opened.stream)
 }
 
@@ -112,8 +115,9 @@ struct OpenedInputs {
 // A part of the stream of an expression that has no fault, with its order and its fields. Those of
 // its inputs are found once, on the way up; a parallel's stream is the first of the feeds.
 #[cycle(opening)]
-fn open_expr(
+fn open_expr<R: Threads + Sync>(
     alloc: Global,
+    rt: &R,
     expr: &Expr,
     cut: &Cut,
     feeds: &mut VecDeque<Tuples>,
@@ -142,8 +146,8 @@ fn open_expr(
         streams,
         orders,
         fields,
-    } = open_inputs(alloc, expr, cut, feeds, part)?;
-    let stream = open_over(alloc, expr, streams, orders.as_slice(), cut, part)?;
+    } = open_inputs(alloc, rt, expr, cut, feeds, part)?;
+    let stream = open_over(alloc, rt, expr, streams, orders.as_slice(), cut, part)?;
     let order = order_given(alloc, expr, orders, fields.as_slice())?;
     let fields = fields_given(alloc, expr, fields)?;
     Ok(Opened {
@@ -205,8 +209,9 @@ fn open_parallel(alloc: Global, expr: &Expr, feeds: &mut VecDeque<Tuples>) -> Re
 
 // The streams of an expression's inputs in a part, in their order, with their orders and fields.
 #[cycle(opening)]
-fn open_inputs(
+fn open_inputs<R: Threads + Sync>(
     alloc: Global,
+    rt: &R,
     expr: &Expr,
     cut: &Cut,
     feeds: &mut VecDeque<Tuples>,
@@ -233,7 +238,7 @@ fn open_inputs(
     let mut orders = Vec::new(alloc);
     let mut fields = Vec::new(alloc);
     for k in 0..expr.input_count() {
-        let opened = open_expr(alloc, expr.input(k), cut, feeds, part)?;
+        let opened = open_expr(alloc, rt, expr.input(k), cut, feeds, part)?;
         streams.push(opened.stream)?;
         orders.push(opened.order)?;
         fields.push(opened.fields)?;
@@ -246,8 +251,9 @@ fn open_inputs(
 }
 
 // The stream of a function over the streams of its inputs, which come in these orders.
-fn open_over(
+fn open_over<R: Threads + Sync>(
     alloc: Global,
+    rt: &R,
     expr: &Expr,
     inputs: Vec<Stream>,
     orders: &[Order],
@@ -266,7 +272,7 @@ fn open_over(
     ensures lives { IfOk result (λ stream. stream.2 ≡ false) }
 {
     match expr {
-        Expr::Search { .. } => open_search(alloc, expr, cut, part),
+        Expr::Search { .. } => open_search(alloc, rt, expr, cut, part),
         Expr::Tuple { .. } => open_tuple(alloc, expr),
         Expr::Select { items, .. } => select(alloc, only(inputs), items),
         Expr::Having { condition, .. } => having(alloc, only(inputs), condition),
@@ -299,7 +305,13 @@ fn only(inputs: Vec<Stream>) -> Stream
     inputs.remove(0)
 }
 
-fn open_search(alloc: Global, search: &Expr, cut: &Cut, part: Part) -> Result<Stream, Memory>
+fn open_search<R: Threads + Sync>(
+    alloc: Global,
+    rt: &R,
+    search: &Expr,
+    cut: &Cut,
+    part: Part,
+) -> Result<Stream, Memory>
     requires search { IsSome (search_parts search.now) }
     requires part { part.index < part.of }
     ensures list { IfOk result (λ stream. (lists : List (List Doc)) → stream.0
@@ -307,7 +319,7 @@ fn open_search(alloc: Global, search: &Expr, cut: &Cut, part: Part) -> Result<St
         (operator_in (expr_tree search.now)) lists) }
     ensures lives { IfOk result (λ stream. stream.2 ≡ false) }
 {
-    let cursor = SearchCursor::make(alloc, search, cut, part)?;
+    let cursor = SearchCursor::make(alloc, rt, search, cut, part)?;
     Ok(Stream::search(cursor))
 }
 

@@ -65,6 +65,6 @@ impl Outcome {
     {
         let status = self.status();
         let body = self.body(alloc, millis)?;
-        response(alloc, status, closes, &body)
+        response(alloc, status, closes, body)
     }
 }

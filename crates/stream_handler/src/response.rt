@@ -56,18 +56,27 @@ fn push_fields(alloc: Global, out: &mut Bytes, size: u64, closes: bool) -> Resul
     out.extend(b"\r\n")
 }
 
+// The bytes behind a head. They are moved to make room for it, and not copied into other memory.
+fn behind(head: &Bytes, body: Bytes) -> Result<Bytes, Memory>
+    ensures { IfOk result (λ bytes. bytes ≡ head.now ++ body) }
+{
+    let mut bytes = body.into_vec();
+    bytes.extend_from_slice(head.as_slice())?;
+    bytes.rotate_right(head.len());
+    Ok(Bytes::from_vec(bytes))
+}
+
 /// A response with this status and body. Where the connection closes with it, it says so.
 pub(crate) fn response(
     alloc: Global,
     status: u16,
     closes: bool,
-    body: &Bytes,
+    body: Bytes,
 ) -> Result<Bytes, Memory>
-    ensures { IfOk result (λ bytes. bytes ≡ response status closes body.now) }
+    ensures { IfOk result (λ bytes. bytes ≡ response status closes body) }
 {
-    let mut out = Bytes::new(alloc);
-    push_status_line(alloc, &mut out, status)?;
-    push_fields(alloc, &mut out, body.len() as u64, closes)?;
-    out.extend(body.as_slice())?;
-    Ok(out)
+    let mut head = Bytes::new(alloc);
+    push_status_line(alloc, &mut head, status)?;
+    push_fields(alloc, &mut head, body.len() as u64, closes)?;
+    behind(&head, body)
 }

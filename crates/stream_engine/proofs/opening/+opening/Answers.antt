@@ -20,13 +20,13 @@ use Rattle.stream_engine.proofs.Openings.{rests_more, streams_width}
 use Rattle.stream_engine.proofs.opening.+opening.Goals as goal
 
 pub open_expr-open_parallel-requires : goal.open_expr-open_parallel-requires
-open_expr-open_parallel-requires t c =
+open_expr-open_parallel-requires g t c =
     let docs : Collections = λ n. documents_of n c.args.cut.now in
     some_fed docs (expr_tree c.args.expr.now) c.args.feeds.now.items
     (sym c.is_split.ensures ∙ c.if-is_split.true) c.requires.planned c.requires.fed
 
 pub open_expr-open_inputs-requires : goal.open_expr-open_inputs-requires
-open_expr-open_inputs-requires t c =
+open_expr-open_inputs-requires g t c =
     let docs : Collections = λ n. documents_of n c.args.cut.now in
     let whole = expr_tree c.args.expr.now in
     let fed : BeginsWith (fed_in docs (inputs_of (inputs_in whole))) c.args.feeds.now.items =
@@ -49,7 +49,7 @@ open_expr-open_inputs-requires t c =
     )
 
 pub open_inputs-open_expr-requires : goal.open_inputs-open_expr-requires
-open_inputs-open_expr-requires t c =
+open_inputs-open_expr-requires g t c =
     let docs : Collections = λ n. documents_of n c.args.cut.now in
     let inputs = inputs_in (expr_tree c.args.expr.now) in
     let e = expr_tree c.input.result.now in
@@ -76,7 +76,7 @@ open_inputs-open_expr-requires t c =
     )
 
 pub open_inputs-loop-k-preserved : goal.open_inputs-loop-k-preserved
-open_inputs-loop-k-preserved t c =
+open_inputs-loop-k-preserved g t c =
     let docs : Collections = λ n. documents_of n c.args.cut.now in
     let part = c.args.part in
     let inputs = inputs_in (expr_tree c.args.expr.now) in
@@ -117,7 +117,7 @@ open_inputs-loop-k-preserved t c =
     }
 
 pub open_expr-open_over-requires-clause-sorted : goal.open_expr-open_over-requires-clause-sorted
-open_expr-open_over-requires-clause-sorted t c =
+open_expr-open_over-requires-clause-sorted g t c =
     let docs : Collections = λ n. documents_of n c.args.cut.now in
     (ready_found docs c.args.part.index c.args.part.of (expr_tree c.args.expr.now)
     c.as_slice.result.now (rests_of c.in_ok-streams.field-0.streams.items) c.requires.planned
@@ -125,7 +125,7 @@ open_expr-open_over-requires-clause-sorted t c =
     (c.as_slice.ensures.value ∙ c.in_ok-streams.ensures.orders) c.in_ok-streams.ensures.lists).sorted
 
 pub open_expr-open_over-requires-clause-faultless : goal.open_expr-open_over-requires-clause-faultless
-open_expr-open_over-requires-clause-faultless t c =
+open_expr-open_over-requires-clause-faultless g t c =
     let docs : Collections = λ n. documents_of n c.args.cut.now in
     (ready_found docs c.args.part.index c.args.part.of (expr_tree c.args.expr.now)
     c.as_slice.result.now (rests_of c.in_ok-streams.field-0.streams.items) c.requires.planned
@@ -133,7 +133,7 @@ open_expr-open_over-requires-clause-faultless t c =
     (c.as_slice.ensures.value ∙ c.in_ok-streams.ensures.orders) c.in_ok-streams.ensures.lists).faultless
 
 pub open_expr-open_over-requires-clause-in_order : goal.open_expr-open_over-requires-clause-in_order
-open_expr-open_over-requires-clause-in_order t c =
+open_expr-open_over-requires-clause-in_order g t c =
     let docs : Collections = λ n. documents_of n c.args.cut.now in
     (ready_found docs c.args.part.index c.args.part.of (expr_tree c.args.expr.now)
     c.as_slice.result.now (rests_of c.in_ok-streams.field-0.streams.items) c.requires.planned
@@ -141,17 +141,17 @@ open_expr-open_over-requires-clause-in_order t c =
     (c.as_slice.ensures.value ∙ c.in_ok-streams.ensures.orders) c.in_ok-streams.ensures.lists).in_order
 
 pub open_expr-open_over-requires-clause-plain : goal.open_expr-open_over-requires-clause-plain
-open_expr-open_over-requires-clause-plain t c =
+open_expr-open_over-requires-clause-plain g t c =
     plain_here (expr_tree c.args.expr.now) c.requires.plain
 
 pub open_expr-open_over-requires-clause-width : goal.open_expr-open_over-requires-clause-width
-open_expr-open_over-requires-clause-width t c =
+open_expr-open_over-requires-clause-width g t c =
     let docs : Collections = λ n. documents_of n c.args.cut.now in
     streams_width docs c.args.part.index c.args.part.of (inputs_in (expr_tree c.args.expr.now))
     c.in_ok-streams.field-0.streams.items c.in_ok-streams.ensures.lists
 
 pub open_expr-returns-then-is_split-clause-list : goal.open_expr-returns-then-is_split-clause-list
-open_expr-returns-then-is_split-clause-list t c =
+open_expr-returns-then-is_split-clause-list g t c =
     let docs : Collections = λ n. documents_of n c.args.cut.now in
     (fed_list docs c.args.part.index c.args.part.of (expr_tree c.args.expr.now)
     c.in_ok-opened.opened.stream.0 c.args.feeds.now.items c.open_parallel.new.feeds.items
@@ -159,7 +159,7 @@ open_expr-returns-then-is_split-clause-list t c =
     c.requires.parted c.requires.fed c.in_ok-opened.ensures.list).0
 
 pub open_expr-returns-then-is_split-clause-fed : goal.open_expr-returns-then-is_split-clause-fed
-open_expr-returns-then-is_split-clause-fed t c =
+open_expr-returns-then-is_split-clause-fed g t c =
     let docs : Collections = λ n. documents_of n c.args.cut.now in
     (fed_list docs c.args.part.index c.args.part.of (expr_tree c.args.expr.now)
     c.in_ok-opened.opened.stream.0 c.args.feeds.now.items c.open_parallel.new.feeds.items
@@ -167,7 +167,7 @@ open_expr-returns-then-is_split-clause-fed t c =
     c.requires.parted c.requires.fed c.in_ok-opened.ensures.list).1
 
 pub open_expr-returns-clause-list : goal.open_expr-returns-clause-list
-open_expr-returns-clause-list t c =
+open_expr-returns-clause-list g t c =
     let docs : Collections = λ n. documents_of n c.args.cut.now in
     let part = c.args.part in
     let whole = expr_tree c.args.expr.now in
@@ -176,7 +176,7 @@ open_expr-returns-clause-list t c =
     ∙ sym (list_in_part-parts docs part.index part.of whole)
 
 pub open_expr-returns-clause-fed : goal.open_expr-returns-clause-fed
-open_expr-returns-clause-fed t c =
+open_expr-returns-clause-fed g t c =
     let docs : Collections = λ n. documents_of n c.args.cut.now in
     let whole = expr_tree c.args.expr.now in
     c.in_ok-streams.ensures.fed
@@ -184,7 +184,7 @@ open_expr-returns-clause-fed t c =
     (sym (fed-parts docs whole (sym c.is_split.ensures ∙ c.if-is_split.false)))
 
 pub open_expr-returns-clause-order : goal.open_expr-returns-clause-order
-open_expr-returns-clause-order t c =
+open_expr-returns-clause-order g t c =
     let whole = expr_tree c.args.expr.now in
     c.in_ok-order.ensures
     ∙ ap (order_given (operator_in whole) c.in_ok-streams.field-0.orders.items)
@@ -194,7 +194,7 @@ open_expr-returns-clause-order t c =
     ∙ sym (order_of-parts whole)
 
 pub open_expr-returns-clause-fields : goal.open_expr-returns-clause-fields
-open_expr-returns-clause-fields t c =
+open_expr-returns-clause-fields g t c =
     let whole = expr_tree c.args.expr.now in
     c.in_ok-fields.ensures
     ∙ ap (fields_given (operator_in whole)) c.in_ok-streams.ensures.fields

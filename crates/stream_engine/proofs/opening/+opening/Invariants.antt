@@ -16,7 +16,7 @@ use Rattle.stream_engine.proofs.opening.+opening.Given as goal
 -- they the orders and the fields that are still to be found, and their lists are the first of the
 -- feeds; what is behind these was behind the lists of all inputs
 abbrev pub invariant-open_inputs-loop-k : goal.invariant-open_inputs-loop-k
-invariant-open_inputs-loop-k l = record {
+invariant-open_inputs-loop-k g l = record {
   planned : AreAllWell (inputs_of (drop l.k (inputs_in (expr_tree l.expr))));
   faultless : own_faults (inputs_of (drop l.k (inputs_in (expr_tree l.expr)))) ≡ None;
   plain : are_plain (inputs_of (drop l.k (inputs_in (expr_tree l.expr)))) ≡ true;
@@ -46,7 +46,7 @@ invariant-open_inputs-loop-k l = record {
 
 -- an input is lower than its expression
 abbrev pub decreases-open_expr : goal.decreases-open_expr
-decreases-open_expr l = height (expr_tree l.expr.now) * 2 + 1
+decreases-open_expr g l = height (expr_tree l.expr.now) * 2 + 1
 
 abbrev pub decreases-open_inputs : goal.decreases-open_inputs
-decreases-open_inputs l = height (expr_tree l.expr.now) * 2
+decreases-open_inputs g l = height (expr_tree l.expr.now) * 2

@@ -15,7 +15,7 @@ use Rattle.stream_engine.proofs.Openings.{first_sorted, at_lists, two_joinable}
 use Rattle.stream_engine.proofs.opening.open_over.Goals as goal
 
 pub merge-requires : goal.merge-requires
-merge-requires c =
+merge-requires g c =
     let inputs = c.in-Merge.inputs in
     let on = c.in-Merge.on in
     let whole : expr_tree c.args.expr.now ≡ node (merge on) (inputs_of (map expr_tree inputs.items)) =
@@ -25,7 +25,7 @@ merge-requires c =
     c.requires.sorted
 
 pub reduce-requires : goal.reduce-requires
-reduce-requires c =
+reduce-requires g c =
     let input = c.in-Reduce.input in
     let by = c.in-Reduce.by in
     let op = c.in-Reduce.group in
@@ -41,7 +41,7 @@ reduce-requires c =
     (first_sorted by c.args.inputs.items one sorted)
 
 pub rollup-requires : goal.rollup-requires
-rollup-requires c =
+rollup-requires g c =
     let input = c.in-Rollup.input in
     let over = c.in-Rollup.over in
     let metrics = c.in-Rollup.metrics in
@@ -57,7 +57,7 @@ rollup-requires c =
     (first_sorted over c.args.inputs.items one sorted)
 
 pub join-requires : goal.join-requires
-join-requires c =
+join-requires g c =
     let left = c.in-InnerJoin.left in
     let right = c.in-InnerJoin.right in
     let on = c.in-InnerJoin.on in
@@ -72,7 +72,7 @@ join-requires c =
     record { two = two.0; sorted = two.1 }
 
 pub join-requires-in-LeftOuterJoin : goal.join-requires-in-LeftOuterJoin
-join-requires-in-LeftOuterJoin c =
+join-requires-in-LeftOuterJoin g c =
     let left = c.in-LeftOuterJoin.left in
     let right = c.in-LeftOuterJoin.right in
     let on = c.in-LeftOuterJoin.on in
@@ -87,7 +87,7 @@ join-requires-in-LeftOuterJoin c =
     record { two = two.0; sorted = two.1 }
 
 pub exist-requires : goal.exist-requires
-exist-requires c =
+exist-requires g c =
     let left = c.in-Intersect.left in
     let right = c.in-Intersect.right in
     let on = c.in-Intersect.on in
@@ -102,7 +102,7 @@ exist-requires c =
     record { two = two.0; sorted = two.1 }
 
 pub exist-requires-in-Complement : goal.exist-requires-in-Complement
-exist-requires-in-Complement c =
+exist-requires-in-Complement g c =
     let left = c.in-Complement.left in
     let right = c.in-Complement.right in
     let on = c.in-Complement.on in
@@ -117,7 +117,7 @@ exist-requires-in-Complement c =
     record { two = two.0; sorted = two.1 }
 
 pub hash_join-requires : goal.hash_join-requires
-hash_join-requires c =
+hash_join-requires g c =
     let input = c.in-HashJoin.input in
     let hashed = c.in-HashJoin.hashed in
     let on = c.in-HashJoin.on in
@@ -128,7 +128,7 @@ hash_join-requires c =
     c.requires.width ∙ ap (λ (t : ExprTree). length (inputs_in t)) whole
 
 pub hash_join-requires-in-OuterHashJoin : goal.hash_join-requires-in-OuterHashJoin
-hash_join-requires-in-OuterHashJoin c =
+hash_join-requires-in-OuterHashJoin g c =
     let input = c.in-OuterHashJoin.input in
     let hashed = c.in-OuterHashJoin.hashed in
     let on = c.in-OuterHashJoin.on in
@@ -139,7 +139,7 @@ hash_join-requires-in-OuterHashJoin c =
     c.requires.width ∙ ap (λ (t : ExprTree). length (inputs_in t)) whole
 
 pub returns-in-Search-clause-list : goal.returns-in-Search-clause-list
-returns-in-Search-clause-list c =
+returns-in-Search-clause-list g c =
     let docs : Collections = λ n. documents_of n c.args.cut.now in
     let op = operator_in (expr_tree c.args.expr.now) in
     let part = c.args.part in
