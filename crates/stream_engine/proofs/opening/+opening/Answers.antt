@@ -9,7 +9,7 @@ use Rattle.expr_check.specs.Walk.{order_of, orders_of, fields_of, all_fields}
 use Rattle.expr_check.proofs.WalkLemmas.{order_of-parts, fields_of-parts, inputs_more}
 use Rattle.source_streams.specs.Cuts.{documents_of}
 use Rattle.part_laws.specs.Parted.{given_in_part, lists_in_part}
-use Rattle.stream_engine.specs.Fed.{fed_in, BeginsWith}
+use Rattle.stream_engine.specs.Fed.{BeginsWith}
 use Rattle.stream_engine.specs.Flows.{Flow, rests_of}
 use Rattle.stream_engine.proofs.Feeding.{begins_here, begins_behind, taken_more, fed-parts}
 use Rattle.stream_engine.proofs.Feeding.{some_fed, fed_list}
@@ -25,55 +25,74 @@ open_expr-open_parallel-requires g t c =
     some_fed docs (expr_tree c.args.expr.now) c.args.feeds.now.items
     (sym c.is_split.ensures ∙ c.if-is_split.true) c.requires.planned c.requires.fed
 
-pub open_expr-open_inputs-requires : goal.open_expr-open_inputs-requires
-open_expr-open_inputs-requires g t c =
-    let docs : Collections = λ n. documents_of n c.args.cut.now in
-    let whole = expr_tree c.args.expr.now in
-    let fed : BeginsWith (fed_in docs (inputs_of (inputs_in whole))) c.args.feeds.now.items =
-    subst (λ these. BeginsWith these c.args.feeds.now.items)
-    (fed-parts docs whole (sym c.is_split.ensures ∙ c.if-is_split.false)) c.requires.fed in (
-      rw (← c.decreases) (omega arith),
-      (
-        well_inputs whole c.requires.planned,
-        (
-          faultless_inputs whole c.requires.faultless,
-          (
-            plain_inputs whole c.requires.plain,
-            (
-              c.requires.part,
-              (parted_inputs c.args.part.of whole c.requires.planned c.requires.parted, fed),
-            ),
-          ),
-        ),
-      ),
-    )
+pub open_expr-open_inputs-requires-clause-planned : goal.open_expr-open_inputs-requires-clause-planned
+open_expr-open_inputs-requires-clause-planned g t c κs within =
+    well_inputs (expr_tree c.args.expr.now) c.requires.planned
 
-pub open_inputs-open_expr-requires : goal.open_inputs-open_expr-requires
-open_inputs-open_expr-requires g t c =
+pub open_expr-open_inputs-requires-clause-faultless : goal.open_expr-open_inputs-requires-clause-faultless
+open_expr-open_inputs-requires-clause-faultless g t c κs within =
+    faultless_inputs (expr_tree c.args.expr.now) c.requires.faultless
+
+pub open_expr-open_inputs-requires-clause-plain : goal.open_expr-open_inputs-requires-clause-plain
+open_expr-open_inputs-requires-clause-plain g t c κs within =
+    plain_inputs (expr_tree c.args.expr.now) c.requires.plain
+
+pub open_expr-open_inputs-requires-clause-parted : goal.open_expr-open_inputs-requires-clause-parted
+open_expr-open_inputs-requires-clause-parted g t c κs within =
+    parted_inputs c.args.part.of (expr_tree c.args.expr.now) c.requires.planned c.requires.parted
+
+pub open_expr-open_inputs-requires-clause-fed : goal.open_expr-open_inputs-requires-clause-fed
+open_expr-open_inputs-requires-clause-fed g t c κs within =
+    let docs : Collections = λ n. documents_of n c.args.cut.now in
+    subst (λ these. BeginsWith these c.args.feeds.now.items)
+    (fed-parts docs (expr_tree c.args.expr.now) (sym c.is_split.ensures ∙ c.if-is_split.false))
+    c.requires.fed
+
+pub open_inputs-open_expr-requires-clause-planned : goal.open_inputs-open_expr-requires-clause-planned
+open_inputs-open_expr-requires-clause-planned g t c κs within =
+    let inputs = inputs_in (expr_tree c.args.expr.now) in
+    let e = expr_tree c.input.result.now in
+    let k = c.loop-k.k in
+    let lt : k < length inputs = omega arith in
+    let is : e ≡ get_or inputs k e = c.input.ensures.value _ in
+    (well_more inputs k e lt is c.loop-k.invariant.planned).0
+
+pub open_inputs-open_expr-requires-clause-faultless : goal.open_inputs-open_expr-requires-clause-faultless
+open_inputs-open_expr-requires-clause-faultless g t c κs within =
+    let inputs = inputs_in (expr_tree c.args.expr.now) in
+    let e = expr_tree c.input.result.now in
+    let k = c.loop-k.k in
+    let lt : k < length inputs = omega arith in
+    let is : e ≡ get_or inputs k e = c.input.ensures.value _ in
+    (faultless_more inputs k e lt is c.loop-k.invariant.faultless).0
+
+pub open_inputs-open_expr-requires-clause-plain : goal.open_inputs-open_expr-requires-clause-plain
+open_inputs-open_expr-requires-clause-plain g t c κs within =
+    let inputs = inputs_in (expr_tree c.args.expr.now) in
+    let e = expr_tree c.input.result.now in
+    let k = c.loop-k.k in
+    let lt : k < length inputs = omega arith in
+    let is : e ≡ get_or inputs k e = c.input.ensures.value _ in
+    (plain_more inputs k e lt is c.loop-k.invariant.plain).0
+
+pub open_inputs-open_expr-requires-clause-parted : goal.open_inputs-open_expr-requires-clause-parted
+open_inputs-open_expr-requires-clause-parted g t c κs within =
+    let inputs = inputs_in (expr_tree c.args.expr.now) in
+    let e = expr_tree c.input.result.now in
+    let k = c.loop-k.k in
+    let lt : k < length inputs = omega arith in
+    let is : e ≡ get_or inputs k e = c.input.ensures.value _ in
+    (parted_more c.args.part.of inputs k e lt is c.loop-k.invariant.parted).0
+
+pub open_inputs-open_expr-requires-clause-fed : goal.open_inputs-open_expr-requires-clause-fed
+open_inputs-open_expr-requires-clause-fed g t c κs within =
     let docs : Collections = λ n. documents_of n c.args.cut.now in
     let inputs = inputs_in (expr_tree c.args.expr.now) in
     let e = expr_tree c.input.result.now in
     let k = c.loop-k.k in
     let lt : k < length inputs = omega arith in
-    let is : e ≡ get_or inputs k e = c.input.ensures.value _ in (
-      rw (← c.decreases) (omega (arith, c.input.ensures.lower)),
-      (
-        (well_more inputs k e lt is c.loop-k.invariant.planned).0,
-        (
-          (faultless_more inputs k e lt is c.loop-k.invariant.faultless).0,
-          (
-            (plain_more inputs k e lt is c.loop-k.invariant.plain).0,
-            (
-              c.requires.part,
-              (
-                (parted_more c.args.part.of inputs k e lt is c.loop-k.invariant.parted).0,
-                begins_here docs inputs k e c.loop-k.feeds.items lt is c.loop-k.invariant.begins,
-              ),
-            ),
-          ),
-        ),
-      ),
-    )
+    let is : e ≡ get_or inputs k e = c.input.ensures.value _ in
+    begins_here docs inputs k e c.loop-k.feeds.items lt is c.loop-k.invariant.begins
 
 pub open_inputs-loop-k-preserved : goal.open_inputs-loop-k-preserved
 open_inputs-loop-k-preserved g t c =
@@ -117,7 +136,7 @@ open_inputs-loop-k-preserved g t c =
     }
 
 pub open_expr-open_over-requires-clause-sorted : goal.open_expr-open_over-requires-clause-sorted
-open_expr-open_over-requires-clause-sorted g t c =
+open_expr-open_over-requires-clause-sorted g t c κs within =
     let docs : Collections = λ n. documents_of n c.args.cut.now in
     (ready_found docs c.args.part.index c.args.part.of (expr_tree c.args.expr.now)
     c.as_slice.result.now (rests_of c.in_ok-streams.field-0.streams.items) c.requires.planned
@@ -125,7 +144,7 @@ open_expr-open_over-requires-clause-sorted g t c =
     (c.as_slice.ensures.value ∙ c.in_ok-streams.ensures.orders) c.in_ok-streams.ensures.lists).sorted
 
 pub open_expr-open_over-requires-clause-faultless : goal.open_expr-open_over-requires-clause-faultless
-open_expr-open_over-requires-clause-faultless g t c =
+open_expr-open_over-requires-clause-faultless g t c κs within =
     let docs : Collections = λ n. documents_of n c.args.cut.now in
     (ready_found docs c.args.part.index c.args.part.of (expr_tree c.args.expr.now)
     c.as_slice.result.now (rests_of c.in_ok-streams.field-0.streams.items) c.requires.planned
@@ -133,7 +152,7 @@ open_expr-open_over-requires-clause-faultless g t c =
     (c.as_slice.ensures.value ∙ c.in_ok-streams.ensures.orders) c.in_ok-streams.ensures.lists).faultless
 
 pub open_expr-open_over-requires-clause-in_order : goal.open_expr-open_over-requires-clause-in_order
-open_expr-open_over-requires-clause-in_order g t c =
+open_expr-open_over-requires-clause-in_order g t c κs within =
     let docs : Collections = λ n. documents_of n c.args.cut.now in
     (ready_found docs c.args.part.index c.args.part.of (expr_tree c.args.expr.now)
     c.as_slice.result.now (rests_of c.in_ok-streams.field-0.streams.items) c.requires.planned
@@ -141,11 +160,11 @@ open_expr-open_over-requires-clause-in_order g t c =
     (c.as_slice.ensures.value ∙ c.in_ok-streams.ensures.orders) c.in_ok-streams.ensures.lists).in_order
 
 pub open_expr-open_over-requires-clause-plain : goal.open_expr-open_over-requires-clause-plain
-open_expr-open_over-requires-clause-plain g t c =
+open_expr-open_over-requires-clause-plain g t c κs within =
     plain_here (expr_tree c.args.expr.now) c.requires.plain
 
 pub open_expr-open_over-requires-clause-width : goal.open_expr-open_over-requires-clause-width
-open_expr-open_over-requires-clause-width g t c =
+open_expr-open_over-requires-clause-width g t c κs within =
     let docs : Collections = λ n. documents_of n c.args.cut.now in
     streams_width docs c.args.part.index c.args.part.of (inputs_in (expr_tree c.args.expr.now))
     c.in_ok-streams.field-0.streams.items c.in_ok-streams.ensures.lists

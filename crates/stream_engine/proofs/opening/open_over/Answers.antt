@@ -1,4 +1,4 @@
-use Rattle.std.proofs.Common.{◌≡◌, ℕ, [], ◌∷◌, ◌∙◌, refl, ap, sym, subst, length, map, codes}
+use Rattle.std.proofs.Common.{◌≡◌, [], ◌∷◌, ◌∙◌, refl, ap, sym, subst, length, map, codes}
 use Rattle.expr_types.specs.ExprTree.{ExprTree, node, merge, reduce, rollup, inputs_of, inputs_in}
 use Rattle.expr_types.specs.ExprTree.{operator_in, inner_join, left_outer_join, intersect}
 use Rattle.expr_types.specs.ExprTree.{complement, hash_join, outer_hash_join}

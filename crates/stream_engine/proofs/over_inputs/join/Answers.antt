@@ -1,5 +1,4 @@
-use Rattle.std.proofs.Common.{◌≡◌, ◌∙◌, ap, sym, List, []}
-use Rattle.tuple_values.specs.Document.{Doc}
+use Rattle.std.proofs.Common.{◌∙◌, ap, sym, []}
 use Rattle.expr_types.specs.ExprTree.{first_or, second_or}
 use Rattle.expr_check.specs.Orders.{directions_of}
 use Rattle.kernel_laws.specs.Rests.{Rests}
