@@ -14,7 +14,6 @@ ghost use Rattle.site_laws.specs.SiteCells.{histories_in};
 ghost use Rattle.tuple_values.specs.Document.{ByteList};
 ghost use Rattle.running_site.specs.Passes.{layout_in, number_of, sight_of, writer_of, IsPassOf};
 
-use crate::visiting::end;
 use crate::{Pass, SiteOf};
 use exchange_rules::{Batch, Sent, SiteFault};
 use shard_versions::Cut;
@@ -60,7 +59,7 @@ impl SiteOf<SiteCell> {
     {
         let mut visit = self.visit(rt, pass);
         let result = take_cut_over(alloc, &mut visit, collections);
-        end(visit, pass);
+        visit.end(pass);
         result
     }
 
@@ -90,7 +89,7 @@ impl SiteOf<SiteCell> {
     {
         let mut visit = self.visit(rt, pass);
         let result = index_over(alloc, &mut visit, collection, writes, commit);
-        end(visit, pass);
+        visit.end(pass);
         result
     }
 
@@ -114,7 +113,7 @@ impl SiteOf<SiteCell> {
     {
         let mut visit = self.visit(rt, pass);
         let result = commit_all_over(alloc, &mut visit, collection);
-        end(visit, pass);
+        visit.end(pass);
         result
     }
 
@@ -143,7 +142,7 @@ impl SiteOf<SiteCell> {
     {
         let mut visit = self.visit(rt, pass);
         let result = send_over(alloc, &mut visit, dest, src, batch);
-        end(visit, pass);
+        visit.end(pass);
         result
     }
 
@@ -167,7 +166,7 @@ impl SiteOf<SiteCell> {
     {
         let mut visit = self.visit(rt, pass);
         let result = topic_state_over(alloc, &mut visit, key);
-        end(visit, pass);
+        visit.end(pass);
         result
     }
 
@@ -195,7 +194,7 @@ impl SiteOf<SiteCell> {
     {
         let mut visit = self.visit(rt, pass);
         let result = bind_topic_over(alloc, &mut visit, key, binding);
-        end(visit, pass);
+        visit.end(pass);
         result
     }
 
@@ -222,7 +221,7 @@ impl SiteOf<SiteCell> {
     {
         let mut visit = self.visit(rt, pass);
         let result = store_topic_over(alloc, &mut visit, key, upto);
-        end(visit, pass);
+        visit.end(pass);
         result
     }
 }

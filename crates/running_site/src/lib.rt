@@ -22,3 +22,4 @@ pub use once_core::Histories;
 pub use pass::{Pass, PassOf, Passes};
 pub use shard_versions::{Cut, CutMark, CutMarks, CutPart, OwnMark, OwnMarks, Record};
 pub use site::{Site, SiteOf};
+pub use visit::Visit;

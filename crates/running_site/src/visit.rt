@@ -11,8 +11,10 @@ use site_cells::SiteCell;
 use std::alloc::Global;
 use turn_table::Turn;
 
-/// A pass at its site while a call runs, with the turn that it has, if any, and its record.
-pub(crate) struct Visit<'a, R> {
+/// A pass at its site for some calls, with the turn that it has, if any, and its record. It works
+/// by turns (`Turns`), so the calls that are written over these can be made with it. Once it has no
+/// turn, `end` gives the pass back.
+pub struct Visit<'a, R> {
     pub(crate) rt: &'a R,
     pub(crate) alloc: Global,
     pub(crate) site: &'a Site,

@@ -9,8 +9,9 @@ use site_cells::SiteCell;
 use std::mem::replace;
 
 impl SiteOf<SiteCell> {
-    /// The pass with its record comes to the site.
-    pub(crate) fn visit<'a, R>(&'a self, rt: &'a R, pass: &mut Pass) -> Visit<'a, R>
+    /// The pass with its record comes to the site, for calls over a writer's turns. It is away from
+    /// its holder until the visit ends, and no call of the site takes it before.
+    pub fn visit<'a, R>(&'a self, rt: &'a R, pass: &mut Pass) -> Visit<'a, R>
         requires { IsPassOf self.now.table.board.shared.table_id
             self.now.table.board.shared.key.cells.value
             (layout_in self.now.names self.now.limit) pass.old }
@@ -38,30 +39,33 @@ impl SiteOf<SiteCell> {
     }
 }
 
-/// The pass goes with its record.
-pub(crate) fn end<R>(visit: Visit<'_, R>, pass: &mut Pass)
-    requires { visit.turn ≡ None }
-    ensures own { IsPassOf visit.entry.site.now.table.board.shared.table_id
-        visit.entry.site.now.table.board.shared.key.cells.value
-        (layout_in visit.entry.site.now.names visit.entry.site.now.limit) pass.new }
-    ensures writer { writer_of pass.new ≡ writer_in (known visit.entry.pass)
-        visit.entry.marks.items visit.entry.own.items }
-    ensures sight { sight_of pass.new ≡ sight_in (known visit.entry.pass) }
-{
-    let Visit {
-        rt: _,
-        alloc: _,
-        site: _,
-        pass: inside,
-        turn,
-        marks,
-        own,
-    } = visit;
-    match turn {
-        Some(_) => unreachable!(),
-        None => {}
+impl<R> Visit<'_, R> {
+    /// The pass goes with its record. A visit that has a turn can't end: each call over a writer's
+    /// turns gives its last one back, and so does `leave`.
+    pub fn end(self, pass: &mut Pass)
+        requires { self.turn ≡ None }
+        ensures own { IsPassOf self.entry.site.now.table.board.shared.table_id
+            self.entry.site.now.table.board.shared.key.cells.value
+            (layout_in self.entry.site.now.names self.entry.site.now.limit) pass.new }
+        ensures writer { writer_of pass.new ≡ writer_in (known self.entry.pass)
+            self.entry.marks.items self.entry.own.items }
+        ensures sight { sight_of pass.new ≡ sight_in (known self.entry.pass) }
+    {
+        let Visit {
+            rt: _,
+            alloc: _,
+            site: _,
+            pass: inside,
+            turn,
+            marks,
+            own,
+        } = self;
+        match turn {
+            Some(_) => unreachable!(),
+            None => {}
+        }
+        pass.pass = Some(inside);
+        pass.marks = marks;
+        pass.own = own;
     }
-    pass.pass = Some(inside);
-    pass.marks = marks;
-    pass.own = own;
 }
