@@ -112,7 +112,7 @@ fn plain(alloc: Global, json: Json) -> Result<Option<Value>, Memory>
     ensures { IfOk result (λ v. option_map datum_of v ≡ plain_value (view json)) }
 {
     match json {
-        Json::String(text) => Ok(Some(Value::Text(Text::from_string(text)))),
+        Json::String(text) => Ok(Some(Value::Text(Text::from_string(text).shared()?))),
         Json::Number(number) => Ok(number.as_i64().map(Value::Long)),
         Json::Bool(true) => Ok(Some(Value::Text(Text::of(alloc, "true")?))),
         Json::Bool(false) => Ok(Some(Value::Text(Text::of(alloc, "false")?))),

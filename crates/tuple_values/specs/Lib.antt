@@ -1,4 +1,5 @@
 pub mod Document
+pub mod Forms
 pub mod Codes
 pub mod Views
 pub mod Falls

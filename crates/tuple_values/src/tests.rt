@@ -325,3 +325,18 @@ fn a_collection_is_found_by_its_name(rt: HostRuntime) -> Result<(), Fail> {
     assert_eq!(rt; found, 2);
     Ok(())
 }
+
+// A text of up to 16 bytes lies in the value, a longer one in a block, which copies may share.
+#[test]
+fn texts_are_read_as_they_were_given(rt: HostRuntime) -> Result<(), Fail> {
+    let alloc = rt.alloc();
+    for text in ["", "sixteen bytes...", "seventeen bytes.."] {
+        let given = Text::from_string(String::from_str(alloc, text)?);
+        let copy = given.copy(alloc)?;
+        let shared = given.shared()?;
+        assert_eq!(rt; copy.as_str(), text);
+        assert_eq!(rt; shared.copy(alloc)?.as_str(), text);
+        assert_eq!(rt; Text::of(alloc, text)?.copy(alloc)?.as_str(), text);
+    }
+    Ok(())
+}
