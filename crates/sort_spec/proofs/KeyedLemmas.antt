@@ -3,15 +3,17 @@ use Rattle.std.proofs.Common.{◌≡◌, List, [], ◌∷◌, Bool, true, false,
 use Rattle.std.specs.Cmp.{IsTotalOrder, IsStrictWeakOrder}
 use Rattle.std.specs.Cmp.Lexicographic.{options_total}
 use Rattle.std.specs.Ordering.{is_lt, ordering_then}
+use Rattle.std.specs.declared.cmp.Ordering.{Ordering}
+use Rattle.std.specs.declared.cmp.Ordering.TheVariants.{Less, Equal, Greater}
 use Rattle.std.proofs.lemmas.Cmp.{on_total, then_total}
 use Rattle.tuple_values.specs.Document.{Doc}
 use Rattle.tuple_values.proofs.OrderLemmas.{datum_cmp_total}
-use Rattle.sort_spec.specs.Keys.{Key, key_of, key_cmp, value_cmp, first_value, other_values}
+use Rattle.sort_spec.specs.Fronts.{Row, value_cmp, row_cmp}
 use Rattle.sort_spec.specs.Rows.{row_for}
 use Rattle.sort_spec.specs.Sorting.{insert, ins_from, ins_sort}
 use Rattle.sort_spec.specs.Terms.{sort_cmp, term_cmp, less}
 use Rattle.sort_spec.specs.declared.term.SortTerm.{SortTerm}
-use Rattle.sort_spec.proofs.TermLemmas.{reversed_total}
+use Rattle.sort_spec.proofs.TermLemmas.{reversed_total, sort_cmp_total}
 
 -- the order of values by a term
 value_cmp_total_by : (term : SortTerm) (descending : Bool) → term.descending ≡ descending
@@ -19,22 +21,34 @@ value_cmp_total_by : (term : SortTerm) (descending : Bool) → term.descending �
 value_cmp_total_by term true e = rw e (reversed_total _ (options_total datum_cmp_total))
 value_cmp_total_by term false e = rw e (options_total datum_cmp_total)
 
--- the order of keys
-pub key_cmp_total : (terms : List SortTerm) → IsTotalOrder (key_cmp terms)
-key_cmp_total [] = record {
+value_cmp_total : (term : SortTerm) → IsTotalOrder (value_cmp term)
+value_cmp_total term = value_cmp_total_by term term.descending refl
+
+-- the order of rows
+pub row_cmp_total : (terms : List SortTerm) → IsTotalOrder (row_cmp terms)
+row_cmp_total [] = record {
   antisymm = λ a b. refl;
   trans = λ a b c p q. absurd (cc);
   congr = λ a b c p. refl;
 }
-key_cmp_total (term ∷ terms) =
-    then_total (on_total first_value (value_cmp_total_by term term.descending refl))
-    (on_total other_values (key_cmp_total terms))
+row_cmp_total (term ∷ []) = on_total (λ (row : Row). row.0.0) (value_cmp_total term)
+row_cmp_total (term ∷ next ∷ terms) =
+    then_total (on_total (λ (row : Row). row.0.0) (value_cmp_total term))
+    (then_total (on_total (λ (row : Row). row.0.1) (value_cmp_total next))
+    (on_total (λ (row : Row). row.1) (sort_cmp_total terms)))
 
--- the keys of two documents compare as the documents do
-pub keys_agree : (terms : List SortTerm) (a b : Doc)
-    → key_cmp terms (key_of terms a) (key_of terms b) ≡ sort_cmp terms a b
-keys_agree [] a b = refl
-keys_agree (term ∷ terms) a b = ap (ordering_then (term_cmp term a b)) (keys_agree terms a b)
+-- what ties by nothing else is as it was
+then_equal : (order : Ordering) → order ≡ ordering_then order Equal
+then_equal Less = refl
+then_equal Equal = refl
+then_equal Greater = refl
+
+-- the rows of two documents compare as the documents do
+pub rows_agree : (terms : List SortTerm) (a b : Doc)
+    → row_cmp terms (row_for terms a) (row_for terms b) ≡ sort_cmp terms a b
+rows_agree [] a b = refl
+rows_agree (term ∷ []) a b = then_equal (term_cmp term a b)
+rows_agree (term ∷ next ∷ terms) a b = refl
 
 module _ {X Y : Type 0} (lt : Y → Y → Bool) (f : X → Y) where
   -- what an insertion leaves can be read element by element
@@ -86,15 +100,15 @@ order_on lt f o = record {
   chain = λ a b c. o.chain (f a) (f b) (f c);
 }
 
--- a row comes before another where its key does
-abbrev pub row_less : List SortTerm → Key × Doc → Key × Doc → Bool
-row_less terms a b = is_lt (key_cmp terms a.0 b.0)
+-- a row comes before another
+abbrev pub row_less : List SortTerm → Row → Row → Bool
+row_less terms a b = is_lt (row_cmp terms a b)
 
 -- which for the rows of documents is the order of the documents
 row_less-for : (terms : List SortTerm) (a b : Doc)
     → row_less terms (row_for terms a) (row_for terms b) ≡ less terms a b
 unfolding less
-row_less-for terms a b = ap is_lt (keys_agree terms a b)
+row_less-for terms a b = ap is_lt (rows_agree terms a b)
 
 -- the documents of rows
 documents : (terms : List SortTerm) (docs : List Doc)
@@ -107,7 +121,7 @@ pub sorted_rows : (terms : List SortTerm) (docs : List Doc)
     → map (λ row. row.1) (ins_sort (row_less terms) (map (row_for terms) docs))
     ≡ ins_sort (less terms) docs
 sorted_rows terms docs =
-    ap (map (λ (row : Key × Doc). row.1))
+    ap (map (λ (row : Row). row.1))
     (sym (ins_sort-map (row_less terms) (row_for terms) docs)
     ∙ ap (map (row_for terms))
     (ins_sort-same (λ a b. row_less terms (row_for terms a) (row_for terms b)) (less terms)

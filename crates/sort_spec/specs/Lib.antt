@@ -1,7 +1,8 @@
 pub mod Agreement
 pub mod Fault
+pub mod Fronts
 pub mod Grammar
-pub mod Keys
+pub mod Held
 pub mod Reading
 pub mod Rows
 pub mod Scan

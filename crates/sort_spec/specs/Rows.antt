@@ -1,19 +1,19 @@
--- A tuple with its values under the terms of a sort, as data (own).
+-- Tuples as rows of a sort (own).
 use Rattle.std.specs.Prelude.{List}
 use Rattle.tuple_values.specs.Document.{Doc}
-use Rattle.sort_spec.specs.Keys.{Key, seen, seen_at, key_of}
-use Rattle.sort_spec.specs.declared.keyed.Keyed.{Keyed}
-use Rattle.sort_spec.specs.declared.placed.Placed.{Placed}
+use Rattle.sort_spec.specs.Fronts.{Row, front_in, front_of}
+use Rattle.sort_spec.specs.declared.rows.Lent.{Lent}
+use Rattle.sort_spec.specs.declared.rows.Owned.{Owned}
 use Rattle.sort_spec.specs.declared.term.SortTerm.{SortTerm}
 
--- the values and the document of a row
-abbrev pub row_of : Keyed → Key × Doc
-row_of row = (seen row.keys.items, row.tuple.now)
+-- a tuple that is lent, with its values
+abbrev pub lent_row : Lent → Row
+lent_row row = (front_in row.tuple.now row.front, row.tuple.now)
 
--- the values and the document of a tuple with its places
-abbrev pub placed_row : Placed → Key × Doc
-placed_row row = (seen_at row.tuple row.places.items, row.tuple)
+-- a tuple, with its values
+abbrev pub owned_row : Owned → Row
+owned_row row = (front_in row.tuple row.front, row.tuple)
 
 -- the row that is made for a document
-abbrev pub row_for : List SortTerm → Doc → Key × Doc
-row_for terms doc = (key_of terms doc, doc)
+abbrev pub row_for : List SortTerm → Doc → Row
+row_for terms doc = (front_of terms doc, doc)

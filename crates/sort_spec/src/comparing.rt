@@ -27,14 +27,21 @@ impl SortSpec {
     pub fn compare(&self, a: &Tuple, b: &Tuple) -> Ordering
         ensures { result ≡ sort_cmp self.now a.now b.now }
     {
-        for term in self.as_slice() {
-            let order = compare_by(term, a, b);
-            if order.is_ne() {
-                return order;
-            }
-        }
-        Ordering::Equal
+        compare_terms(self.as_slice(), a, b)
     }
+}
+
+/// The same by terms.
+pub(crate) fn compare_terms(terms: &[SortTerm], a: &Tuple, b: &Tuple) -> Ordering
+    ensures { result ≡ sort_cmp terms.now a.now b.now }
+{
+    for term in terms {
+        let order = compare_by(term, a, b);
+        if order.is_ne() {
+            return order;
+        }
+    }
+    Ordering::Equal
 }
 
 /// What a sort writes is an order: of any two tuples one comes first or they tie, and ties are one

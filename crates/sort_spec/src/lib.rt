@@ -3,11 +3,12 @@
 
 mod comparing;
 mod fault;
+mod front;
+mod held;
 mod item;
-mod keyed;
 mod pair;
-mod placed;
 mod reader;
+mod rows;
 mod scan;
 mod sorting;
 mod term;

@@ -3,12 +3,12 @@ use Rattle.std.specs.Cmp.{IsStrictWeakOrder}
 use Rattle.std.proofs.lemmas.Fn.{always_returns_same}
 use Rattle.std.proofs.lemmas.List.MinMax.{ranks_by}
 use Rattle.tuple_values.specs.Document.{Doc}
-use Rattle.sort_spec.specs.Keys.{Key}
-use Rattle.sort_spec.specs.Rows.{placed_row}
+use Rattle.sort_spec.specs.Fronts.{Row}
+use Rattle.sort_spec.specs.Rows.{owned_row}
 use Rattle.sort_spec.specs.Sorting.{ins_sort}
 use Rattle.sort_spec.specs.Terms.{less}
-use Rattle.sort_spec.specs.declared.placed.Placed.{Placed}
-use Rattle.sort_spec.proofs.KeyedLemmas.{key_cmp_total, row_less, ins_sort-map, sorted_rows}
+use Rattle.sort_spec.specs.declared.rows.Owned.{Owned}
+use Rattle.sort_spec.proofs.KeyedLemmas.{row_cmp_total, row_less, ins_sort-map, sorted_rows}
 use Rattle.sort_spec.proofs.StableLemmas.{stable_sort}
 use Rattle.sort_spec.proofs.sorting.sort_tuples.Goals as goal
 
@@ -16,16 +16,16 @@ pub returns : goal.returns
 returns c =
     let terms = c.as_slice-terms.result.now in
     let rows = c.in_ok-rows.rows.items in
-    let document : Key × Doc → Doc = λ row. row.1 in
-    let lt : Placed → Placed → Bool = λ a b. row_less terms (placed_row a) (placed_row b) in
-    let weak : IsStrictWeakOrder lt = ranks_by (key_cmp_total terms) (λ row. (placed_row row).0) in
+    let document : Row → Doc = λ row. row.1 in
+    let lt : Owned → Owned → Bool = λ a b. row_less terms (owned_row a) (owned_row b) in
+    let weak : IsStrictWeakOrder lt = ranks_by (row_cmp_total terms) owned_row in
     c.from_vec.ensures
     ∙ c.in_ok-sorted.ensures
-    ∙ ap (λ s. map document (map placed_row s))
+    ∙ ap (λ s. map document (map owned_row s))
     (stable_sort lt weak rows c.sort_by.new.self.items
     (c.in_ok-sort_by.ensures.sorted lt weak (always_returns_same _ _ _ (λ a r q k. search rules)))
     (c.in_ok-sort_by.ensures.stable lt weak (always_returns_same _ _ _ (λ a r q k. search rules))))
-    ∙ ap (map document) (ins_sort-map (row_less terms) placed_row rows)
+    ∙ ap (map document) (ins_sort-map (row_less terms) owned_row rows)
     ∙ ap (λ made. map document (ins_sort (row_less terms) made)) c.in_ok-rows.ensures
     ∙ sorted_rows terms c.into_vec-items.result.items
     ∙ ap (ins_sort (less terms)) c.into_vec-items.ensures

@@ -1,8 +1,8 @@
 use Rattle.std.proofs.Common.{◌≡◌, drop}
 use Rattle.sort_spec.specs.Terms.{sort_cmp}
-use Rattle.sort_spec.proofs.term.SortSpec.compare.Given as goal
+use Rattle.sort_spec.proofs.comparing.compare_terms.Given as goal
 
 -- the terms so far tell no difference
 abbrev pub invariant-loop-term : goal.invariant-loop-term
 invariant-loop-term l =
-    sort_cmp l.term-items l.a l.b ≡ sort_cmp (drop l.term-index l.term-items) l.a l.b
+    sort_cmp l.terms l.a l.b ≡ sort_cmp (drop l.term-index l.terms) l.a l.b

@@ -1,7 +1,0 @@
-use Rattle.std.proofs.Common.{◌≡◌, map}
-use Rattle.sort_spec.specs.Rows.{placed_row}
-use Rattle.sort_spec.proofs.placed.without_places.Given as goal
-
--- the tuples of the rows so far
-abbrev pub invariant-loop-row : goal.invariant-loop-row
-invariant-loop-row l = l.tuples.items ≡ map (λ row. row.1) (map placed_row l.yielded)
