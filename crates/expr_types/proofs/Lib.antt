@@ -1,6 +1,7 @@
-pub mod TreeLemmas
-pub mod GroupLemmas
-pub mod OrderLemmas
-pub mod JoinLemmas
-pub mod PlannedLemmas
 pub mod CopyLemmas
+pub mod GroupLemmas
+pub mod JoinLemmas
+pub mod OrderLemmas
+pub mod PlannedLemmas
+pub mod SendLemmas
+pub mod TreeLemmas

@@ -17,12 +17,13 @@ use Rattle.group_kernels.specs.contracts.unique.UniqueKernel as UniqueKernel
 use Rattle.merge_join.specs.contracts.exist.ExistKernel as ExistKernel
 use Rattle.merge_join.specs.contracts.join.JoinKernel as JoinKernel
 use Rattle.hash_join.specs.contracts.join.HashJoinKernel as HashJoinKernel
+use Rattle.expr_types.proofs.SendLemmas.{text_send, tuple_send, items_send}
 use Rattle.stream_engine.specs.contracts.any_kernel.AnyKernel as AnyKernel
 use Rattle.stream_engine.specs.contracts.fed.Fed as Fed
 use Rattle.stream_engine.specs.contracts.stream.Stream as Stream
 use Rattle.stream_engine.proofs.stream.Stream.TheLaws.TheKnot as streams
 
--- so may a search's cursor
+-- a search's cursor may
 pub cursor_send : IsSend SearchCursor.the_row
 cursor_send = search (tuples.crosses, heap.crosses, sendable) depth 60 fits 20000
 
@@ -36,10 +37,10 @@ fed_send = search (tuples.crosses, heap.crosses, sendable) depth 60 fits 20000
 
 -- and each kernel
 pub having_send : IsSend HavingKernel.the_row
-having_send = search (tuples.crosses, conditions.crosses, heap.crosses, sendable) depth 60 fits 20000
+having_send = search (tuple_send, tuples.crosses, conditions.crosses, heap.crosses, sendable) depth 60 fits 20000
 
 pub select_send : IsSend SelectKernel.the_row
-select_send = search (tuples.crosses, heap.crosses, sendable) depth 60 fits 20000
+select_send = search (items_send, tuple_send, heap.crosses, sendable) depth 60 fits 20000
 
 pub merge_send : IsSend MergeKernel.the_row
 merge_send = search (tuples.crosses, heap.crosses, sendable) depth 60 fits 20000
@@ -66,7 +67,7 @@ pub exist_send : IsSend ExistKernel.the_row
 exist_send = search (tuples.crosses, heap.crosses, sendable) depth 60 fits 20000
 
 pub hash_send : IsSend HashJoinKernel.the_row
-hash_send = search (tuples.crosses, heap.crosses, sendable) depth 60 fits 20000
+hash_send = search (text_send, tuple_send, tuples.crosses, heap.crosses, sendable) depth 60 fits 20000
 
 pub kernel_send : IsSend AnyKernel.the_row
 kernel_send =
