@@ -1,0 +1,63 @@
+// Two workers, of which one delivers a version of a document that the other has overtaken.
+ghost use Rattle.std.specs.Prelude.{◌≡◌};
+ghost use Rattle.running_site.specs.Passes.{number_of};
+ghost use Rattle.thread_cases.specs.Workers.{IsAt};
+
+use crate::baton::Baton;
+use crate::delivering::{FIRST, SECOND, deliver_once};
+use crate::documents::{collection, put_one};
+use crate::indexing::index_writes;
+use io_edge::NoGate;
+use running_site::{Pass, Site};
+use std::alloc::Global;
+use std::sync::Wait;
+
+// Puts the document with this number.
+fn put<R: Wait>(rt: &R, alloc: Global, site: &Site, pass: &mut Pass, number: i64) -> Option<u64>
+    requires { IsAt site.now pass.old }
+    ensures own { IsAt site.now pass.new }
+    ensures number { number_of pass.new ≡ number_of pass.old }
+{
+    let collection = collection(alloc, 0).ok()?;
+    let writes = put_one(alloc, number).ok()?;
+    index_writes(rt, alloc, site, pass, &collection, writes)
+}
+
+/// Puts a document; once the other worker has read it, puts it again, delivers that, and lets the
+/// other one go on. How many writes of the delivery stand, if nothing is refused.
+pub fn overtake<R: Wait>(
+    rt: &R,
+    alloc: Global,
+    site: &Site,
+    pass: &mut Pass,
+    baton: &Baton,
+) -> Option<u64>
+    requires { IsAt site.now pass.old }
+    ensures own { IsAt site.now pass.new }
+    ensures number { number_of pass.new ≡ number_of pass.old }
+{
+    put(rt, alloc, site, pass, 1)?;
+    baton.reach(1);
+    baton.wait(2);
+    put(rt, alloc, site, pass, 2)?;
+    let stand = deliver_once(rt, alloc, site, pass, FIRST, &NoGate);
+    baton.reach(3);
+    stand
+}
+
+/// Delivers the document that was put first, and waits before it is sent until the other worker has
+/// delivered the one that was put again. How many writes of the delivery stand, if nothing is refused.
+pub fn come_late<R: Wait>(
+    rt: &R,
+    alloc: Global,
+    site: &Site,
+    pass: &mut Pass,
+    baton: &Baton,
+) -> Option<u64>
+    requires { IsAt site.now pass.old }
+    ensures own { IsAt site.now pass.new }
+    ensures number { number_of pass.new ≡ number_of pass.old }
+{
+    baton.wait(1);
+    deliver_once(rt, alloc, site, pass, SECOND, baton)
+}
