@@ -16,7 +16,7 @@ use std::sync::Wait;
 use std::thread::yield_now;
 use stream_site::shards_of;
 use tuple_values::Names;
-use update_sink::run_topic;
+use update_sink::{TopicRun, run_topic};
 
 /// A topic, whose documents go from the first collection to the second.
 pub const FIRST: &[u8] =
@@ -50,8 +50,7 @@ fn is_delivery(names: &Names, update: &Expr) -> bool
         && shards_of(names, dest.as_str()) > 0
 }
 
-// Runs the topic once; how many documents it gave, and how many of its writes stand, if that isn't
-// refused.
+// Runs the topic once; what it did, if that isn't refused.
 fn run<R: Wait, G: Gate>(
     rt: &R,
     alloc: Global,
@@ -59,7 +58,7 @@ fn run<R: Wait, G: Gate>(
     pass: &mut Pass,
     checked: &Checked,
     gate: &G,
-) -> Option<(u64, u64)>
+) -> Option<TopicRun>
     requires own { IsAt site.now pass.old }
     requires topic { IsSome (sink_in_tree (tree_of checked.now)) }
     requires there { IsSinkThere site.now.names (sink_of (tree_of checked.now)) }
@@ -69,8 +68,7 @@ fn run<R: Wait, G: Gate>(
     let mut visit = site.visit(rt, pass);
     let result = run_topic(alloc, &mut visit, checked, gate);
     visit.end(pass);
-    let run = result.ok()?;
-    Some((run.read, run.stand))
+    result.ok()
 }
 
 // The update of a topic that the bytes write, if its collections are there.
@@ -85,7 +83,7 @@ fn topic(alloc: Global, names: &Names, bytes: &[u8]) -> Option<Checked>
     Some(checked)
 }
 
-/// Runs a topic once; how many of its writes stand, if that isn't refused.
+/// Runs a topic once; what it did, if that isn't refused.
 pub fn deliver_once<R: Wait, G: Gate>(
     rt: &R,
     alloc: Global,
@@ -93,14 +91,13 @@ pub fn deliver_once<R: Wait, G: Gate>(
     pass: &mut Pass,
     bytes: &[u8],
     gate: &G,
-) -> Option<u64>
+) -> Option<TopicRun>
     requires { IsAt site.now pass.old }
     ensures own { IsAt site.now pass.new }
     ensures number { number_of pass.new ≡ number_of pass.old }
 {
     let checked = topic(alloc, site.names(), bytes)?;
-    let (_, stand) = run(rt, alloc, site, pass, &checked, gate)?;
-    Some(stand)
+    run(rt, alloc, site, pass, &checked, gate)
 }
 
 /// Runs the first topic until so many documents were delivered; how many were, if no run is refused.
@@ -121,8 +118,8 @@ pub fn deliver_all<R: Wait>(
         if done >= wanted {
             break;
         }
-        let (read, _) = run(rt, alloc, site, pass, &checked, &NoGate)?;
-        done = done.saturating_add(read);
+        let run = run(rt, alloc, site, pass, &checked, &NoGate)?;
+        done = done.saturating_add(run.read);
         yield_now();
     }
     Some(done)

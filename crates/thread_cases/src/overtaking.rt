@@ -40,13 +40,14 @@ pub fn overtake<R: Wait>(
     baton.reach(1);
     baton.wait(2);
     put(rt, alloc, site, pass, 2)?;
-    let stand = deliver_once(rt, alloc, site, pass, FIRST, &NoGate);
+    let run = deliver_once(rt, alloc, site, pass, FIRST, &NoGate);
     baton.reach(3);
-    stand
+    Some(run?.stand)
 }
 
 /// Delivers the document that was put first, and waits before it is sent until the other worker has
-/// delivered the one that was put again. How many writes of the delivery stand, if nothing is refused.
+/// delivered the one that was put again. The version up to which it had read, if it read one document
+/// and no write of the delivery stands.
 pub fn come_late<R: Wait>(
     rt: &R,
     alloc: Global,
@@ -59,5 +60,9 @@ pub fn come_late<R: Wait>(
     ensures number { number_of pass.new ≡ number_of pass.old }
 {
     baton.wait(1);
-    deliver_once(rt, alloc, site, pass, SECOND, baton)
+    let run = deliver_once(rt, alloc, site, pass, SECOND, baton)?;
+    if run.read != 1 || run.stand != 0 {
+        return None;
+    }
+    Some(*run.stored.get(0)?)
 }
