@@ -11,7 +11,7 @@ use std::mem;
 use tuple_values::{FieldList, Memory, Sequence, Text, Value};
 
 /// What a parameter is read as.
-#[derive(Debug, Drop)]
+#[derive(Drop)]
 pub enum Param {
     /// It changes nothing, or was taken.
     Nothing,
@@ -32,17 +32,25 @@ pub enum Param {
 }
 
 /// A parameter under its key, or under the name of the operand that it is.
-#[derive(Debug, Drop)]
+#[derive(Drop)]
 pub struct Given {
     pub(crate) name: Text,
     pub(crate) param: Param,
 }
 
 /// Parameters in the order of the arguments, and the condition where there was one.
-#[derive(Debug, Drop)]
 pub(crate) struct Params {
     items: Vec<Given>,
     condition: Option<Condition>,
+}
+
+// By hand, so that a function that owns parameters drops them by a call.
+impl Drop for Params {
+    fn drop(self) {
+        let Params { items, condition } = self;
+        drop(items);
+        drop(condition);
+    }
 }
 
 impl Params {
@@ -69,12 +77,29 @@ impl Params {
         Ok(())
     }
 
+    /// Adds one at the end under a copy of the name.
+    pub fn add(&mut self, alloc: Global, name: &str, param: Param) -> Result<(), Memory>
+        ensures ok { OnOk result
+            (self.new.items.items
+            ≡ self.old.items.items ++ record { name = name.now; param = param } ∷ []) }
+        ensures same { self.new.condition ≡ self.old.condition }
+    {
+        match Text::of(alloc, name) {
+            Ok(name) => self.push(name, param),
+            Err(fault) => {
+                drop(param);
+                Err(fault)
+            }
+        }
+    }
+
     /// Puts a condition in, in place of one that is there.
     pub fn put_condition(&mut self, condition: Condition)
         ensures condition { self.new.condition ≡ Some condition }
         ensures same { self.new.items.items ≡ self.old.items.items }
     {
-        self.condition = Some(condition);
+        let before = mem::replace(&mut self.condition, Some(condition));
+        drop(before);
     }
 
     /// Takes the condition out.
@@ -106,14 +131,16 @@ impl Params {
     }
 
     /// Takes out a text; the empty one where there is none.
-    pub fn take_text(&mut self, alloc: Global, name: &str) -> Result<Text, Memory>
-        ensures value { IfOk result (λ text. text
-            ≡ text_in (param_at name.now self.old.items.items)) }
+    pub fn take_text(&mut self, alloc: Global, name: &str) -> Text
+        ensures value { result ≡ text_in (param_at name.now self.old.items.items) }
         ensures rest { self.new.items.items ≡ taken name.now self.old.items.items }
     {
-        match text_of(self.take(name)) {
-            Some(text) => Ok(text),
-            None => Text::of(alloc, ""),
+        match self.take(name) {
+            Param::Plain(text) => text,
+            rest => {
+                drop(rest);
+                Text::from_string(String::new(alloc))
+            }
         }
     }
 
@@ -124,7 +151,10 @@ impl Params {
     {
         match self.take(name) {
             Param::Names(names) => names,
-            _ => FieldList::new(alloc),
+            rest => {
+                drop(rest);
+                FieldList::new(alloc)
+            }
         }
     }
 
@@ -135,7 +165,10 @@ impl Params {
     {
         match self.take(name) {
             Param::Names(names) => Some(names),
-            _ => None,
+            rest => {
+                drop(rest);
+                None
+            }
         }
     }
 
@@ -146,7 +179,10 @@ impl Params {
     {
         match self.take(name) {
             Param::Sort(sort) => sort,
-            _ => SortSpec::new(alloc),
+            rest => {
+                drop(rest);
+                SortSpec::new(alloc)
+            }
         }
     }
 
@@ -157,7 +193,10 @@ impl Params {
     {
         match self.take(name) {
             Param::Pairs(pairs) => pairs,
-            _ => OnSpec::new(alloc),
+            rest => {
+                drop(rest);
+                OnSpec::new(alloc)
+            }
         }
     }
 
@@ -168,27 +207,32 @@ impl Params {
     {
         match self.take(name) {
             Param::Query(query) => query,
-            _ => Query {
-                clauses: Clauses::new(alloc),
-            },
+            rest => {
+                drop(rest);
+                Query {
+                    clauses: Clauses::new(alloc),
+                }
+            }
         }
     }
 
     /// Takes out a query with its text; that of no clause where there is none.
-    pub fn take_kept_query(&mut self, alloc: Global, name: &str) -> Result<(Query, Text), Memory>
-        ensures query { IfOk result (λ both. both.0.clauses
-            ≡ kept_query_in (param_at name.now self.old.items.items)) }
-        ensures text { IfOk result (λ both. both.1
-            ≡ kept_text_in (param_at name.now self.old.items.items)) }
+    pub fn take_kept_query(&mut self, alloc: Global, name: &str) -> (Query, Text)
+        ensures query { result.0.clauses
+            ≡ kept_query_in (param_at name.now self.old.items.items) }
+        ensures text { result.1 ≡ kept_text_in (param_at name.now self.old.items.items) }
         ensures rest { self.new.items.items ≡ taken name.now self.old.items.items }
     {
-        match kept_of(self.take(name)) {
-            Some(kept) => Ok(kept),
-            None => {
-                let query = Query {
-                    clauses: Clauses::new(alloc),
-                };
-                Ok((query, Text::of(alloc, "")?))
+        match self.take(name) {
+            Param::KeptQuery(query, text) => (query, text),
+            rest => {
+                drop(rest);
+                (
+                    Query {
+                        clauses: Clauses::new(alloc),
+                    },
+                    Text::from_string(String::new(alloc)),
+                )
             }
         }
     }
@@ -200,7 +244,10 @@ impl Params {
     {
         match self.take(name) {
             Param::Number(n) => Some(n),
-            _ => None,
+            rest => {
+                drop(rest);
+                None
+            }
         }
     }
 
@@ -211,7 +258,10 @@ impl Params {
     {
         match self.take(name) {
             Param::Number(n) => n,
-            _ => other,
+            rest => {
+                drop(rest);
+                other
+            }
         }
     }
 
@@ -222,7 +272,10 @@ impl Params {
     {
         match self.take(name) {
             Param::Small(n) => n,
-            _ => 0,
+            rest => {
+                drop(rest);
+                0
+            }
         }
     }
 
@@ -233,7 +286,10 @@ impl Params {
     {
         match self.take(name) {
             Param::Flag(flag) => flag,
-            _ => false,
+            rest => {
+                drop(rest);
+                false
+            }
         }
     }
 
@@ -244,10 +300,13 @@ impl Params {
     {
         match self.take(name) {
             Param::Group(op) => op,
-            _ => GroupOp {
-                sort: SortSpec::new(alloc),
-                n: 0,
-            },
+            rest => {
+                drop(rest);
+                GroupOp {
+                    sort: SortSpec::new(alloc),
+                    n: 0,
+                }
+            }
         }
     }
 
@@ -257,8 +316,8 @@ impl Params {
         ensures { IfOk result (λ items. items ≡ items_in self.items.items) }
     {
         let mut items = Items::new(alloc);
-        for given in self.items {
-            push_some(&mut items, item_in(given.param))?;
+        for given in self.into_vec() {
+            push_some(&mut items, item_in(given))?;
         }
         Ok(items)
     }
@@ -269,7 +328,7 @@ impl Params {
         ensures { IfOk result (λ metrics. metrics ≡ metrics_in self.items.items) }
     {
         let mut metrics = Metrics::new(alloc);
-        for given in self.items {
+        for given in self.into_vec() {
             push_some(&mut metrics, metric_in(given))?;
         }
         Ok(metrics)
@@ -279,7 +338,9 @@ impl Params {
     pub fn into_vec(self) -> Vec<Given>
         ensures { result.items ≡ self.items.items }
     {
-        self.items
+        let Params { items, condition } = self;
+        drop(condition);
+        items
     }
 }
 
@@ -299,27 +360,6 @@ fn take(items: &mut [Given], name: &str) -> Param
     }
 }
 
-fn text_of(param: Param) -> Option<Text>
-    ensures { MatchOption result (text_in param ≡ []) (λ text. text ≡ text_in param) }
-{
-    match param {
-        Param::Plain(text) => Some(text),
-        _ => None,
-    }
-}
-
-fn kept_of(param: Param) -> Option<(Query, Text)>
-    ensures query { MatchOption result (kept_query_in param ≡ [])
-        (λ both. both.0.clauses ≡ kept_query_in param) }
-    ensures text { MatchOption result (kept_text_in param ≡ [])
-        (λ both. both.1 ≡ kept_text_in param) }
-{
-    match param {
-        Param::KeptQuery(query, text) => Some((query, text)),
-        _ => None,
-    }
-}
-
 /// Adds an item at the end, where there is one.
 pub(crate) fn push_some<T: Drop>(items: &mut Sequence<T>, item: Option<T>) -> Result<(), Memory>
     ensures { OnOk result (items.new ≡ items.old ++ cons_option item []) }
@@ -330,12 +370,17 @@ pub(crate) fn push_some<T: Drop>(items: &mut Sequence<T>, item: Option<T>) -> Re
     }
 }
 
-fn item_in(param: Param) -> Option<Item>
-    ensures { result ≡ item_in param }
+fn item_in(given: Given) -> Option<Item>
+    ensures { result ≡ item_in given.param }
 {
+    let Given { name, param } = given;
+    drop(name);
     match param {
         Param::Item(item) => Some(item),
-        _ => None,
+        rest => {
+            drop(rest);
+            None
+        }
     }
 }
 
@@ -346,6 +391,7 @@ fn metric_in(given: Given) -> Option<Metric>
     if name.as_str() == "metric" {
         metric_of(param)
     } else {
+        drop(param);
         None
     }
 }
@@ -355,6 +401,9 @@ fn metric_of(param: Param) -> Option<Metric>
 {
     match param {
         Param::Metric(metric) => Some(metric),
-        _ => None,
+        rest => {
+            drop(rest);
+            None
+        }
     }
 }

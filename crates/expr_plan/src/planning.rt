@@ -1,16 +1,18 @@
 // What a call stands for.
-ghost use Rattle.std.specs.Prelude.{◌≡◌, ◌≤◌, [], IfOk, IfErr, MatchResult, Ok, map, option_map};
+ghost use Rattle.std.specs.Prelude.{◌≡◌, ◌≤◌, [], ◌++◌, IfOk, IfErr, MatchResult, Ok, map, option_map, true, length};
 ghost use Rattle.std.specs.List.{cons_option};
 ghost use Rattle.expr_reader.specs.Tree.{trees_of, calls, call_limit};
 ghost use Rattle.expr_reader.specs.Views.{call_tree, arg_tree};
 ghost use Rattle.expr_plan.specs.Arguments.{walked};
-ghost use Rattle.expr_types.specs.ExprTree.{expr_tree};
+ghost use Rattle.expr_types.specs.ExprTree.{expr_tree, node, inputs_of};
 ghost use Rattle.expr_plan.specs.Fault.{IsFaultOf};
-ghost use Rattle.expr_plan.specs.Functions.{name_of};
+ghost use Rattle.expr_plan.specs.Functions.{name_of, takes, takes_all, first_missing};
+ghost use Rattle.expr_plan.specs.Operators.{operator_of};
 ghost use Rattle.expr_types.specs.Planned.{IsPlanned};
 ghost use Rattle.expr_plan.specs.Law.{TellsFirst, StandsIfFaultless, AreKnown};
-ghost use Rattle.expr_plan.specs.Walk.{walked_of, planned, inputs_planned, input_planned};
-ghost use Rattle.expr_plan.specs.declared.fault.PlanFault.TheVariants.{MissingParam, WrongInputs};
+ghost use Rattle.expr_plan.specs.Walk.{inputs_found, complete, walked_of, planned, inputs_planned, input_planned};
+ghost use Rattle.expr_plan.specs.declared.fault.PlanFault.TheVariants.{UnknownFunction, MissingParam, WrongInputs};
+ghost use Rattle.expr_plan.specs.declared.row.Place.TheVariants.{Alone};
 
 use crate::building::expression;
 use crate::function::function_of;
@@ -38,22 +40,70 @@ fn wrong_inputs(alloc: Global, function: Function, found: u64) -> Result<PlanFau
     Ok(PlanFault::WrongInputs { function, found })
 }
 
+fn unknown(alloc: Global, name: &Text) -> Result<PlanFault, Memory>
+    ensures { IfOk result (λ fault. fault ≡ UnknownFunction name.now) }
+{
+    let name = name.copy(alloc)?;
+    Ok(PlanFault::UnknownFunction { name })
+}
+
+// Whether as many arguments are inputs as the function takes.
+fn check_inputs(alloc: Global, function: Function, args: &Args) -> Result<(), PlanFault>
+    ensures { MatchResult result
+        (λ _. takes function (inputs_found Alone function (trees_of args.now)) ≡ true)
+        (IsFaultOf (walked_of function (trees_of args.now))) }
+{
+    let found = inputs_found(Place::Alone, function, args);
+    if function.takes(found) {
+        Ok(())
+    } else {
+        Err(wrong_inputs(alloc, function, found)?)
+    }
+}
+
+// Whether no parameter is missing.
+fn check_complete(alloc: Global, function: Function, params: &Params) -> Result<(), PlanFault>
+    ensures { MatchResult result
+        (λ _. complete function (walked params.now)
+        (first_missing function params.now.items.items) ≡ Ok (walked params.now))
+        (IsFaultOf (complete function (walked params.now)
+        (first_missing function params.now.items.items))) }
+{
+    match function.first_missing(params) {
+        Some(name) => Err(missing(alloc, function, name)?),
+        None => Ok(()),
+    }
+}
+
 // What the arguments of a function give, or the first fault that isn't in an input.
 fn walk_args(alloc: Global, function: Function, args: &Args) -> Result<Params, PlanFault>
     ensures { MatchResult result
         (λ params. walked_of function (trees_of args.now) ≡ Ok (walked params))
         (IsFaultOf (walked_of function (trees_of args.now))) }
 {
-    let found = inputs_found(Place::Alone, function, args);
-    if !function.takes(found) {
-        return Err(wrong_inputs(alloc, function, found)?);
-    }
+    check_inputs(alloc, function, args)?;
     let made = made_names(alloc, function, args)?;
     let params = params_of(alloc, function, &made, args)?;
-    if let Some(name) = function.first_missing(&params) {
-        return Err(missing(alloc, function, name)?);
-    }
+    check_complete(alloc, function, &params)?;
     Ok(params)
+}
+
+// The expression of a function with its parameters and its inputs, those under a key behind the
+// others.
+fn combined(
+    alloc: Global,
+    function: Function,
+    params: Params,
+    mut inputs: Exprs,
+    mut keyed: Exprs,
+) -> Result<Expr, Memory>
+    requires { takes_all function (length (inputs.items ++ keyed.items)) ≡ true }
+    ensures { IfOk result (λ e. expr_tree e
+        ≡ node (operator_of function (walked params))
+        (inputs_of (map expr_tree inputs.items ++ map expr_tree keyed.items))) }
+{
+    inputs.append(&mut keyed)?;
+    expression(alloc, function, params, inputs)
 }
 
 /// The expression that a call stands for (Solr Reference Guide, "Stream Source Reference" and
@@ -67,14 +117,12 @@ pub fn plan(alloc: Global, call: &Call) -> Result<Expr, PlanFault>
     ensures err { IfErr result (IsFaultOf (planned (call_tree call.now))) }
 {
     let Some(function) = function_of(call.name.as_str()) else {
-        let name = call.name.copy(alloc)?;
-        return Err(PlanFault::UnknownFunction { name });
+        return Err(unknown(alloc, &call.name)?);
     };
     let params = walk_args(alloc, function, &call.args)?;
-    let mut inputs = plan_inputs(alloc, Place::Alone, function, &call.args)?;
-    let mut keyed = plan_inputs(alloc, Place::UnderKey, function, &call.args)?;
-    inputs.append(&mut keyed)?;
-    Ok(expression(alloc, function, params, inputs)?)
+    let inputs = plan_inputs(alloc, Place::Alone, function, &call.args)?;
+    let keyed = plan_inputs(alloc, Place::UnderKey, function, &call.args)?;
+    Ok(combined(alloc, function, params, inputs, keyed)?)
 }
 
 /// The law of plans: the fault that is told of a call is the first of all its faults, and a call

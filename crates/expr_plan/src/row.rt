@@ -1,7 +1,7 @@
 // The functions that are known, and what their rows say.
 
 /// A function of expressions.
-#[derive(Clone, Copy, Debug, PartialEq, Eq)]
+#[derive(Clone, Copy, PartialEq, Eq)]
 pub enum Function {
     Search,
     Tuple,
@@ -52,7 +52,7 @@ pub(crate) const FUNCTIONS: [Function; 21] = [
 ];
 
 /// What the value under a key is to be.
-#[derive(Clone, Copy, Debug)]
+#[derive(Clone, Copy)]
 pub enum Shape {
     /// A number where it is bare and whole, else a text.
     Literal,
@@ -83,7 +83,7 @@ pub enum Shape {
 }
 
 /// Where an input stands among the arguments.
-#[derive(Clone, Copy, Debug)]
+#[derive(Clone, Copy)]
 pub enum Place {
     /// By itself.
     Alone,
@@ -92,7 +92,7 @@ pub enum Place {
 }
 
 /// How many inputs a function takes.
-#[derive(Clone, Copy, Debug)]
+#[derive(Clone, Copy)]
 pub enum Inputs {
     Exactly(u64),
     AtLeast(u64),
@@ -100,7 +100,7 @@ pub enum Inputs {
 
 /// The calls among the arguments of a function that are no inputs. Each function that has helpers
 /// needs one.
-#[derive(Clone, Copy, Debug)]
+#[derive(Clone, Copy)]
 pub enum Helpers {
     Nothing,
     /// Items of `select`, which may be words and calls with a new name, too.
@@ -113,11 +113,11 @@ pub enum Helpers {
 }
 
 /// A key, and what the value under it is to be.
-#[derive(Clone, Copy, Debug)]
+#[derive(Clone, Copy)]
 pub struct Key(pub(crate) &'static str, pub(crate) Shape);
 
 /// What a function takes. What has to be given stands in the order in which it is missed.
-#[derive(Clone, Copy, Debug)]
+#[derive(Clone, Copy)]
 pub struct Row {
     pub(crate) name: &'static str,
     pub(crate) inputs: Inputs,

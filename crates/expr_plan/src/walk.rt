@@ -3,7 +3,7 @@ ghost use Rattle.std.specs.Prelude.{◌≡◌, MatchResult, Ok, option_map};
 ghost use Rattle.expr_reader.specs.Tree.{trees_of};
 ghost use Rattle.expr_reader.specs.Views.{arg_tree, call_tree};
 ghost use Rattle.expr_plan.specs.Given.{nothing_given};
-ghost use Rattle.expr_plan.specs.Arguments.{walked, with_operand, with_read, with_item, with_plain, with_word, may_be_call, with_call, with_condition, with_helper, with_sub, with_renamed, with_arg, with_args};
+ghost use Rattle.expr_plan.specs.Arguments.{walked, with_operand, with_read, with_item, with_plain, with_named, with_word, may_be_call, with_call, with_condition, with_helper, with_sub, with_renamed, with_arg, with_args};
 ghost use Rattle.expr_plan.specs.ConditionReading.{condition_of};
 ghost use Rattle.expr_plan.specs.Fault.{IsFaultOf};
 ghost use Rattle.expr_plan.specs.Functions.{next_operand, shape_of};
@@ -36,9 +36,8 @@ fn add_operand(
 {
     match function.next_operand(params) {
         Some(name) => {
-            let name = Text::of(alloc, name)?;
-            params.push(name, Param::Plain(word.text.copy(alloc)?))?;
-            Ok(())
+            let text = word.text.copy(alloc)?;
+            Ok(params.add(alloc, name, Param::Plain(text))?)
         }
         None => Err(bad(alloc, function, "operand")?),
     }
@@ -57,10 +56,7 @@ fn add_read(
 {
     let name = helper_name(function);
     match read {
-        Some(param) => {
-            params.push(Text::of(alloc, name)?, param)?;
-            Ok(())
-        }
+        Some(param) => Ok(params.add(alloc, name, param)?),
         None => Err(bad(alloc, function, name)?),
     }
 }
@@ -97,6 +93,27 @@ fn add_plain(
     }
 }
 
+// What was read under a key.
+fn add_named(
+    alloc: Global,
+    function: Function,
+    made: &FieldList,
+    params: &mut Params,
+    key: Text,
+    param: Param,
+) -> Result<(), PlanFault>
+    ensures { MatchResult result
+        (λ _. with_named function made.now (walked params.old) key param
+        ≡ Ok (walked params.new))
+        (IsFaultOf (with_named function made.now (walked params.old) key param)) }
+{
+    if names_any(made, &param) {
+        drop(param);
+        return Err(bad(alloc, function, key.as_str())?);
+    }
+    Ok(params.push(key, param)?)
+}
+
 fn add_word(
     alloc: Global,
     function: Function,
@@ -113,12 +130,9 @@ fn add_word(
 {
     match function.shape_of(key.as_str()) {
         Some(shape) if !params.has(key.as_str()) => {
+            let name = key.copy(alloc)?;
             let param = read_as(alloc, shape, function, key.as_str(), word)?;
-            if names_any(made, &param) {
-                return Err(bad(alloc, function, key.as_str())?);
-            }
-            params.push(key.copy(alloc)?, param)?;
-            Ok(())
+            add_named(alloc, function, made, params, name, param)
         }
         _ => Err(bad(alloc, function, key.as_str())?),
     }
@@ -158,8 +172,7 @@ fn add_call(
 {
     match function.shape_of(key.as_str()) {
         Some(shape) if !params.has(key.as_str()) && may_be_call(shape) => {
-            params.push(key.copy(alloc)?, Param::Nothing)?;
-            Ok(())
+            Ok(params.push(key.copy(alloc)?, Param::Nothing)?)
         }
         _ => Err(bad(alloc, function, key.as_str())?),
     }
@@ -179,9 +192,8 @@ fn add_condition(
 {
     match condition_of(alloc, call)? {
         Some(condition) => {
-            params.push(Text::of(alloc, "condition")?, Param::Nothing)?;
             params.put_condition(condition);
-            Ok(())
+            Ok(params.add(alloc, "condition", Param::Nothing)?)
         }
         None => Err(bad(alloc, function, "condition")?),
     }

@@ -6,15 +6,15 @@ use Rattle.expr_plan.proofs.building.search.Goals as goal
 pub returns : goal.returns
 returns c =
     let whole =
-    search_found c.args.params.items.items c.take_text.new.self.items.items
+    search_found c.args.params.items.items c.take_text-collection.new.self.items.items
     c.take_query-q.new.self.items.items c.take_names-fl.new.self.items.items
     c.take_sort-sort.new.self.items.items c.take_number-rows.new.self.items.items
-    c.take_text.ensures.rest c.take_query-q.ensures.rest c.take_names-fl.ensures.rest
+    c.take_text-collection.ensures.rest c.take_query-q.ensures.rest c.take_names-fl.ensures.rest
     c.take_sort-sort.ensures.rest c.take_number-rows.ensures.rest in
-    search_is c.in_ok-collection.collection c.take_query-q.result c.take_names-fl.result
+    search_is c.take_text-collection.result c.take_query-q.result c.take_names-fl.result
     c.take_sort-sort.result c.take_number-rows.result c.take_names_maybe-partition_keys.result
     ∙ rw (
-      c.in_ok-collection.ensures.value,
+      c.take_text-collection.ensures.value,
       c.take_query-q.ensures.value,
       c.take_names-fl.ensures.value,
       c.take_sort-sort.ensures.value,

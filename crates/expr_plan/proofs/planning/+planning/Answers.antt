@@ -18,34 +18,25 @@ pub plan-returns-clause-ok : goal.plan-returns-clause-ok
 plan-returns-clause-ok t c =
     let known : function_of c.args.call.now.name ≡ Some c.in-Some.function =
     ap function_of (sym c.as_str.ensures) ∙ sym c.in-Some.ensures in
-    let both = ap (map expr_tree) c.in_ok-append.ensures.items
-    ∙ map-append expr_tree c.in_ok-inputs.inputs.items c.in_ok-keyed.keyed.items in
     rw (known, c.in_ok-params.ensures, c.in_ok-inputs.ensures, c.in_ok-keyed.ensures)
-    (ap Ok
-    (sym
-    (c.in_ok-expression.ensures
-    ∙ ap
-    (λ (l : List ExprTree).
-    node (operator_of c.in-Some.function (walked c.in_ok-params.params)) (inputs_of l))
-    both)))
+    (ap Ok (sym c.in_ok-combined.ensures))
 
-pub plan-expression-requires : goal.plan-expression-requires
-plan-expression-requires t c =
+pub plan-combined-requires : goal.plan-combined-requires
+plan-combined-requires t c =
     let f = c.in-Some.function in
     let first = c.in_ok-inputs.inputs.items in
     let rest = c.in_ok-keyed.keyed.items in
     let width : length (first ++ rest) ≡ length (map expr_tree first ++ map expr_tree rest) =
     sym (length-map (first ++ rest) expr_tree)
     ∙ ap (λ (l : List ExprTree). length l) (map-append expr_tree first rest) in
-    ap (λ l. takes_all f (length l)) c.in_ok-append.ensures.items
-    ∙ ap (takes_all f) width
+    ap (takes_all f) width
     ∙ all_width f (trees_of c.args.call.now.args) (walked c.in_ok-params.params)
     (map expr_tree first) (map expr_tree rest) c.in_ok-params.ensures c.in_ok-inputs.ensures
     c.in_ok-keyed.ensures
 
 pub plan-returns-clause-planned : goal.plan-returns-clause-planned
 plan-returns-clause-planned t c =
-    planned_is (call_tree c.args.call.now) (expr_tree c.in_ok-expression.field-0)
+    planned_is (call_tree c.args.call.now) (expr_tree c.in_ok-combined.field-0)
     (plan-returns-clause-ok t c)
 
 pub plan_inputs-returns-in_err-input : goal.plan_inputs-returns-in_err-input
