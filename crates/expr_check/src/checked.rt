@@ -22,7 +22,7 @@ use tuple_values::{FieldList, Names};
 /// An expression that may be evaluated: each input has the order that its function needs. A contract
 /// sees the expression alone.
 #[cycle(checked)]
-#[derive(Debug, Drop)]
+#[derive(Drop)]
 pub struct Checked {
     expr: Expr,
     order: Order,
@@ -34,7 +34,7 @@ pub struct Checked {
 /// The checked input of a parallel: among how many workers its work is split, and by which sort what
 /// they give is merged.
 #[cycle(checked)]
-#[derive(Debug, Drop)]
+#[derive(Drop)]
 pub struct ParallelPart {
     pub checked: Checked,
     pub workers: u16,
@@ -43,7 +43,7 @@ pub struct ParallelPart {
 
 /// What a checked expression holds besides itself.
 #[cycle(checked)]
-#[derive(Debug, Drop)]
+#[derive(Drop)]
 pub(crate) enum Within {
     /// The input of a function that runs it.
     Input(Box<Checked>),

@@ -7,17 +7,19 @@ ghost use Rattle.expr_check.specs.Law.{InputsAreSorted, ListsAreInOrder, ListsHa
 ghost use Rattle.expr_check.specs.Law.{PlainRootsArePlain};
 ghost use Rattle.expr_check.specs.Reads.{are_known};
 ghost use Rattle.expr_check.specs.Views.{expr_of};
-ghost use Rattle.expr_check.specs.Walk.{fault_of, named_in};
+ghost use Rattle.expr_check.specs.Held.{IsHeld};
+ghost use Rattle.expr_check.specs.Walk.{fault_of, named_in, order_of, fields_of, collections_of};
 ghost use Rattle.expr_check.specs.declared.fault.CheckFault.TheVariants.{OutOfMemory};
 ghost use Rattle.expr_check.specs.declared.roots.Roots.TheVariants.{Plain};
 
+use crate::checked::Within;
 use crate::standing::at_root;
 use crate::walk::walk;
 use crate::walked::Walked;
-use crate::{CheckFault, Checked, Roots};
+use crate::{CheckFault, Checked, Order, Roots};
 use expr_types::Expr;
 use std::alloc::Global;
-use tuple_values::Names;
+use tuple_values::{FieldList, Names};
 
 /// Checks that an expression may be evaluated over collections of these names. The expression is
 /// moved in, and dropped after an `Err`.
@@ -39,6 +41,35 @@ pub fn check(alloc: Global, expr: Expr, names: &Names, roots: Roots) -> Result<C
     // What is checked is this expression.
     ensures whole { IfOk result (λ checked. expr_of checked ≡ expr) }
 {
+    let Judged {
+        order,
+        fields,
+        reads,
+        within,
+    } = judge(alloc, &expr, names, roots)?;
+    Ok(Checked::new(expr, order, fields, reads, within))
+}
+
+// What is known of an expression without a fault.
+#[derive(Drop)]
+struct Judged {
+    order: Order,
+    fields: FieldList,
+    reads: FieldList,
+    within: Within,
+}
+
+// What is known of an expression, or its first fault.
+fn judge(alloc: Global, expr: &Expr, names: &Names, roots: Roots) -> Result<Judged, CheckFault>
+    requires planned { IsPlanned (expr_tree expr.now) }
+    ensures ok { OnOk result (fault_of roots names.now (expr_tree expr.now) ≡ None) }
+    ensures err { IfErr result (λ fault. fault ≢ OutOfMemory
+        → fault_of roots names.now (expr_tree expr.now) ≡ Some fault) }
+    ensures order { IfOk result (λ judged. judged.order ≡ order_of (expr_tree expr.now)) }
+    ensures fields { IfOk result (λ judged. judged.fields ≡ fields_of (expr_tree expr.now)) }
+    ensures reads { IfOk result (λ judged. judged.reads ≡ collections_of (expr_tree expr.now)) }
+    ensures held { IfOk result (λ judged. IsHeld judged.within (expr_tree expr.now)) }
+{
     let Walked {
         order,
         fields,
@@ -46,10 +77,15 @@ pub fn check(alloc: Global, expr: Expr, names: &Names, roots: Roots) -> Result<C
         fault,
         within,
         ..
-    } = walk(alloc, &expr, at_root(), names, roots)?;
+    } = walk(alloc, expr, at_root(), names, roots)?;
     match fault {
         Some(fault) => Err(fault),
-        None => Ok(Checked::new(expr, order, fields, reads, within)),
+        None => Ok(Judged {
+            order,
+            fields,
+            reads,
+            within,
+        }),
     }
 }
 

@@ -36,11 +36,11 @@ fn checked_input(
 {
     let any = Order::Any;
     let none = FieldList::new(alloc);
-    let expr = input.copy(alloc)?;
     let order = first_of(inputs.orders.as_slice(), &any).copy(alloc)?;
     let fields = first_of(inputs.fields.as_slice(), &none).copy(alloc)?;
     let reads = inputs.reads.copy(alloc)?;
     let within = first_within(alloc, withins);
+    let expr = input.copy(alloc)?;
     Ok(Checked::new(expr, order, fields, reads, within))
 }
 
@@ -80,14 +80,13 @@ fn only_part(
     alloc: Global,
     checked: Checked,
     workers: u16,
-    sort: &SortSpec,
+    sort: SortSpec,
 ) -> Result<Vec<ParallelPart>, Memory>
     ensures { IfOk result (λ parts. map part_tree parts.items ≡ record {
       input = tree_of checked;
-      split = record { workers = workers; sort = sort.now };
+      split = record { workers = workers; sort = sort };
     } ∷ []) }
 {
-    let sort = sort.copy(alloc)?;
     let mut parts = Vec::new(alloc);
     parts.push(ParallelPart {
         checked,
@@ -128,12 +127,13 @@ fn hold(
             sort,
             ..
         } => {
+            let sort = sort.copy(alloc)?;
             let checked = checked_input(alloc, input, inputs, withins)?;
             Ok(Within::Parallels(only_part(alloc, checked, *workers, sort)?))
         }
         Expr::Update { input, .. } | Expr::Commit { input, .. } | Expr::Daemon { input, .. } => {
-            let checked = checked_input(alloc, input, inputs, withins)?;
-            Ok(Within::Input(Box::new(alloc, checked)?))
+            let checked = Box::new(alloc, checked_input(alloc, input, inputs, withins)?)?;
+            Ok(Within::Input(checked))
         }
         Expr::Search { .. }
         | Expr::Tuple { .. }

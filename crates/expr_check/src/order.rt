@@ -4,7 +4,7 @@ use std::alloc::Global;
 use tuple_values::{Memory, TryCopy};
 
 /// The order of a list of tuples.
-#[derive(Debug, Drop)]
+#[derive(Drop)]
 pub enum Order {
     /// At most one tuple, which is in every order.
     Any,

@@ -1,5 +1,5 @@
 // The collections that an expression names, and those that it reads.
-ghost use Rattle.std.specs.Prelude.{◌≡◌, IfOk, [], ◌∷◌, fold, option_map};
+ghost use Rattle.std.specs.Prelude.{◌≡◌, IfOk, OnOk, [], ◌∷◌, fold, option_map};
 ghost use Rattle.tuple_values.specs.Collections.{is_known};
 ghost use Rattle.sort_spec.specs.Texts.{once};
 ghost use Rattle.expr_types.specs.ExprTree.{expr_tree, operator_in};
@@ -158,19 +158,20 @@ pub(crate) fn read_by(alloc: Global, expr: &Expr) -> Result<FieldList, Memory>
     }
 }
 
-/// The names with those of another list that count once, each where it isn't there. Both lists are moved.
+/// Adds the names of another list that count once, each where it isn't there.
 #[tactic(auto, using(crate::proofs::ReadLemmas::fold_steps))]
-pub(crate) fn with_names(mut list: FieldList, more: FieldList) -> Result<FieldList, Memory>
+pub(crate) fn add_names(list: &mut FieldList, more: FieldList) -> Result<(), Memory>
     requires { more ≡ once more }
-    ensures { IfOk result (λ names. names ≡ fold with_name list more) }
+    ensures { OnOk result (list.new ≡ fold with_name list.old more) }
 {
     if list.len() == 0 {
-        return Ok(more);
+        *list = more;
+        return Ok(());
     }
     for name in more.into_vec() {
         if !list.contains(name.as_str()) {
             list.push(name)?;
         }
     }
-    Ok(list)
+    Ok(())
 }

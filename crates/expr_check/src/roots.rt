@@ -1,7 +1,7 @@
 // Where a call stands in an expression.
 
 /// Which functions an expression may hold.
-#[derive(Clone, Copy, Debug, PartialEq, Eq)]
+#[derive(Clone, Copy, PartialEq, Eq)]
 pub enum Roots {
     /// Those that only read documents.
     Plain,
@@ -10,7 +10,7 @@ pub enum Roots {
 }
 
 /// The call round another one, as far as it says which calls may stand in it.
-#[derive(Clone, Copy, Debug)]
+#[derive(Clone, Copy)]
 pub(crate) enum Round {
     /// There is none: the other one is the root.
     Nothing,
@@ -22,7 +22,7 @@ pub(crate) enum Round {
 }
 
 /// Where a call stands.
-#[derive(Clone, Copy, Debug)]
+#[derive(Clone, Copy)]
 pub(crate) struct Place {
     /// The call round it.
     pub(crate) round: Round,

@@ -4,7 +4,7 @@ use crate::{CheckFault, Order};
 use tuple_values::{FieldList, Text};
 
 /// What is known of an expression.
-#[derive(Debug, Drop)]
+#[derive(Drop)]
 pub(crate) struct Walked {
     /// The order in which it gives its tuples.
     pub(crate) order: Order,
@@ -23,7 +23,7 @@ pub(crate) struct Walked {
 }
 
 /// What is known of the inputs of an expression.
-#[derive(Debug, Drop)]
+#[derive(Drop)]
 pub(crate) struct WalkedInputs {
     /// Their orders.
     pub(crate) orders: Vec<Order>,

@@ -6,7 +6,7 @@ use std::alloc::Global;
 use tuple_values::{Memory, Text, TryCopy, Value};
 
 /// How a field's value is compared with a literal.
-#[derive(Clone, Copy, Debug, PartialEq, Eq)]
+#[derive(Clone, Copy, PartialEq, Eq)]
 pub enum Comparison {
     Eq,
     Gt,
@@ -17,7 +17,7 @@ pub enum Comparison {
 
 /// A condition on a tuple: a comparison of a field with a literal, all of several, some of
 /// several, just one of two, or not (Solr Reference Guide, "Stream Decorator Reference", having).
-#[derive(Debug, Drop)]
+#[derive(Drop)]
 pub enum Condition {
     Compare {
         test: Comparison,

@@ -86,7 +86,7 @@ fn only(alloc: Global, inputs: Exprs) -> Result<Box<Expr>, Memory>
 }
 
 // The two inputs of a join.
-#[derive(Debug, Drop)]
+#[derive(Drop)]
 struct Pair {
     left: Box<Expr>,
     right: Box<Expr>,
@@ -98,10 +98,8 @@ fn both(alloc: Global, inputs: Exprs) -> Result<Pair, Memory>
         ≡ expr_tree p.left.value ∷ expr_tree p.right.value ∷ []) }
 {
     let mut inputs = inputs;
-    let left = inputs.remove(0);
-    let right = inputs.remove(0);
-    let left = Box::new(alloc, left)?;
-    let right = Box::new(alloc, right)?;
+    let left = Box::new(alloc, inputs.remove(0))?;
+    let right = Box::new(alloc, inputs.remove(0))?;
     Ok(Pair { left, right })
 }
 

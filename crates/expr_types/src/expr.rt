@@ -11,7 +11,7 @@ use tuple_values::{FieldList, Text, Tuple};
 
 /// An expression: one variant for each function (Solr Reference Guide, "Streaming Expressions").
 /// What changes nothing isn't kept.
-#[derive(Debug, Drop)]
+#[derive(Drop)]
 pub enum Expr {
     /// The current documents of a collection that match, sorted, cut to `fl`.
     Search {

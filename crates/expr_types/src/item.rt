@@ -6,7 +6,7 @@ use std::alloc::Global;
 use tuple_values::{FieldList, Memory, Sequence, Text, TryCopy, Value};
 
 /// What `select` does with a tuple (Solr Reference Guide, "Stream Decorator Reference", select).
-#[derive(Debug, Drop)]
+#[derive(Drop)]
 pub enum Item {
     /// The field under a new name, perhaps its own.
     Field {
@@ -73,7 +73,7 @@ fn copy_maybe(alloc: Global, value: &Option<Value>) -> Result<Option<Value>, Mem
 }
 
 /// What `rollup` computes over the tuples of a group, over a field or over all tuples.
-#[derive(Debug, Drop)]
+#[derive(Drop)]
 pub enum Metric {
     Sum(Text),
     Min(Text),
@@ -96,7 +96,7 @@ impl TryCopy for Metric {
 }
 
 /// What `reduce` keeps of a group: the first `n` tuples by a sort.
-#[derive(Debug, Drop)]
+#[derive(Drop)]
 pub struct GroupOp {
     pub sort: SortSpec,
     pub n: u64,

@@ -8,8 +8,6 @@ mod item;
 mod joining;
 mod naming;
 mod source_copies;
-#[cfg(test)]
-mod tests;
 
 pub use condition::{Comparison, Condition, Conditions};
 pub use expr::{Expr, Exprs};

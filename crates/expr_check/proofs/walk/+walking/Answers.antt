@@ -5,7 +5,7 @@ use Rattle.tuple_values.specs.Collections.{is_known}
 use Rattle.tuple_values.specs.Document.{ByteList}
 use Rattle.sort_spec.specs.Texts.{once}
 use Rattle.expr_types.specs.ExprTree.{inputs_in, inputs_of, expr_tree, operator_in}
-use Rattle.expr_check.specs.Held.{AreHeld}
+use Rattle.expr_check.specs.Held.{AreHeld, IsHeld}
 use Rattle.expr_check.specs.Reads.{with_name}
 use Rattle.expr_types.specs.Names.{function_name}
 use Rattle.expr_check.specs.Rules.{read_by, fields_given}
@@ -35,19 +35,22 @@ walk_inputs-walk-requires t c =
 pub walk_inputs-loop-k-init : goal.walk_inputs-loop-k-init
 walk_inputs-loop-k-init t c =
     let inputs = inputs_in (expr_tree c.args.expr.now) in
+    let none = c.in_ok-below.ensures in
     record {
-      orders = ap (λ w. w ++ orders_of (inputs_of inputs)) c.new-orders.ensures.items;
-      fields = ap (λ w. w ++ all_fields (inputs_of inputs)) c.new-fields.ensures.items;
-      keys = ap (λ w. w ++ all_keys (inputs_of inputs)) c.new-keys.ensures.items;
-      keyless = refl;
-      reads = ap (λ l. fold with_name l (all_searched (inputs_of inputs))) c.in_ok-reads.ensures;
-      fault = refl;
-      held = λ none.
-          subst (λ (l : List Within). AreHeld l []) (sym c.new-withins.ensures.items) tt;
+      orders = ap (λ w. w ++ orders_of (inputs_of inputs)) none.orders;
+      fields = ap (λ w. w ++ all_fields (inputs_of inputs)) none.fields;
+      keys = ap (λ w. w ++ all_keys (inputs_of inputs)) none.keys;
+      keyless = ap (λ w. option_or w (keyless_in (inputs_of inputs))) none.keyless;
+      reads = ap (λ l. fold with_name l (all_searched (inputs_of inputs))) none.reads;
+      fault = ap
+          (λ w. option_or w (faults_where c.args.roots c.args.place
+          (λ name. is_known name c.args.names.now) (inputs_of inputs))) none.fault;
+      held = λ fault.
+          subst (λ (l : List Within). AreHeld l []) (sym none.withins) tt;
     }
 
-pub walk_inputs-with_names-requires : goal.walk_inputs-with_names-requires
-walk_inputs-with_names-requires t c =
+pub walk_inputs-add-requires : goal.walk_inputs-add-requires
+walk_inputs-add-requires t c =
     c.in_ok-walked.ensures.reads
     ∙ sym (once-once (searched_in (expr_tree c.input.result.now)))
     ∙ ap once (sym c.in_ok-walked.ensures.reads)
@@ -60,47 +63,49 @@ walk_inputs-loop-k-preserved t c =
     let e = expr_tree c.input.result.now in
     let rest = inputs_of (drop (c.loop-k.k + 1) inputs) in
     let walked = c.in_ok-walked.walked in
+    let old = c.loop-k.below in
+    let more = c.in_ok-add.ensures in
     record {
       orders =
-          ap (λ w. w ++ orders_of rest) c.in_ok-push.ensures.items
+          ap (λ w. w ++ orders_of rest) more.orders
           ∙ inputs_more order_of orders_of (λ e exprs. refl) inputs c.loop-k.k e
-          c.loop-k.orders.items walked.order lt (c.input.ensures.value _)
+          old.inputs.orders.items walked.order lt (c.input.ensures.value _)
           c.in_ok-walked.ensures.order c.loop-k.invariant.orders;
       fields =
-          ap (λ w. w ++ all_fields rest) c.in_ok-push-2.ensures.items
+          ap (λ w. w ++ all_fields rest) more.fields
           ∙ inputs_more fields_of all_fields (λ e exprs. refl) inputs c.loop-k.k e
-          c.loop-k.fields.items walked.fields lt (c.input.ensures.value _)
+          old.inputs.fields.items walked.fields lt (c.input.ensures.value _)
           c.in_ok-walked.ensures.fields c.loop-k.invariant.fields;
       keys =
-          ap (λ w. w ++ all_keys rest) c.in_ok-push-3.ensures.items
+          ap (λ w. w ++ all_keys rest) more.keys
           ∙ inputs_more keys_of all_keys (λ e exprs. refl) inputs c.loop-k.k e
-          c.loop-k.keys.items walked.keys lt (c.input.ensures.value _)
+          old.inputs.keys.items walked.keys lt (c.input.ensures.value _)
           c.in_ok-walked.ensures.keys c.loop-k.invariant.keys;
       keyless =
-          ap (λ w. option_or w (keyless_in rest)) c.or-keyless.ensures
+          ap (λ w. option_or w (keyless_in rest)) more.keyless
           ∙ firsts_more keyless_of keyless_in (λ e exprs. refl) inputs c.loop-k.k e
-          c.loop-k.keyless walked.keyless lt (c.input.ensures.value _)
+          old.inputs.keyless walked.keyless lt (c.input.ensures.value _)
           c.in_ok-walked.ensures.keyless c.loop-k.invariant.keyless;
       reads =
-          reads_more c.loop-k.reads
+          reads_more old.inputs.reads
           (fold with_name (once (read_by (operator_in (expr_tree c.args.expr.now))))
           (all_searched (inputs_of inputs)))
-          walked.reads c.in_ok-reads-2.reads inputs c.loop-k.k e lt (c.input.ensures.value _)
-          c.in_ok-reads-2.ensures c.in_ok-walked.ensures.reads c.loop-k.invariant.reads;
+          walked.reads c.add.new.below.inputs.reads inputs c.loop-k.k e lt (c.input.ensures.value _)
+          more.reads c.in_ok-walked.ensures.reads c.loop-k.invariant.reads;
       fault =
           ap (λ w. option_or w (faults_where c.args.roots c.args.place is_there rest))
-          c.or-fault.ensures
-          ∙ faults_more c.args.roots c.args.place is_there inputs c.loop-k.k e c.loop-k.fault
+          more.fault
+          ∙ faults_more c.args.roots c.args.place is_there inputs c.loop-k.k e old.inputs.fault
           walked.fault lt (c.input.ensures.value _) c.in_ok-walked.ensures.fault
           c.loop-k.invariant.fault;
       held = λ none.
-          let both = sym c.or-fault.ensures ∙ none in
+          let both = sym more.fault ∙ none in
           subst (λ (l : List Within). AreHeld l (take (c.loop-k.k + 1) inputs))
-          (sym c.in_ok-push-4.ensures.items)
-          (held_next c.loop-k.withins.items walked.within inputs c.loop-k.k e lt
+          (sym more.withins)
+          (held_next old.withins.items walked.within inputs c.loop-k.k e lt
           (c.input.ensures.value _)
-          (c.loop-k.invariant.held (none_first c.loop-k.fault walked.fault both))
-          (c.in_ok-walked.ensures.held (none_second c.loop-k.fault walked.fault both)));
+          (c.loop-k.invariant.held (none_first old.inputs.fault walked.fault both))
+          (c.in_ok-walked.ensures.held (none_second old.inputs.fault walked.fault both)));
     }
 
 pub walk-fault_at-requires : goal.walk-fault_at-requires
@@ -115,61 +120,25 @@ walk-hold_faultless-requires t c = λ own none.
     c.in_ok-inputs.ensures.reads c.place_in.ensures c.in_ok-inputs.ensures.fault
     c.in_ok-inputs.ensures.held none
 
-pub walk-returns-clause-order : goal.walk-returns-clause-order
-walk-returns-clause-order t c =
-    cc (
-      c.in_ok-order.ensures,
-      c.in_ok-inputs.ensures.found.orders,
-      c.in_ok-inputs.ensures.found.fields,
-      c.as_slice.ensures.value,
-      order_of-parts (expr_tree c.args.expr.now),
-    )
-
-pub walk-returns-clause-fields : goal.walk-returns-clause-fields
-walk-returns-clause-fields t c =
-    let whole = expr_tree c.args.expr.now in
-    c.in_ok-fields.ensures
-    ∙ ap (fields_given (operator_in whole)) c.in_ok-inputs.ensures.found.fields
-    ∙ sym (fields_of-parts whole)
-
-pub walk-returns-clause-keys : goal.walk-returns-clause-keys
-walk-returns-clause-keys t c =
-    cc (
-      c.in_ok-keys.ensures,
-      c.in_ok-inputs.ensures.found.fields,
-      c.in_ok-inputs.ensures.found.keys,
-      c.as_slice-2.ensures.value,
-      keys_of-parts (expr_tree c.args.expr.now),
-    )
-
-pub walk-returns-clause-keyless : goal.walk-returns-clause-keyless
-walk-returns-clause-keyless t c =
-    let whole = expr_tree c.args.expr.now in
-    let function = function_name (operator_in whole) in
-    c.in_ok-keyless.ensures
-    ∙ ap
-    (λ (first : Option ByteList). option_or first (unkeyed function c.in_ok-keys.keys))
-    c.in_ok-inputs.ensures.found.keyless
-    ∙ ap
-    (λ (keys : Option (List ByteList)).
-    option_or (keyless_in (inputs_of (inputs_in whole))) (unkeyed function keys))
-    (walk-returns-clause-keys t c)
-    ∙ sym (keyless_of-parts whole)
+pub walk-found-requires : goal.walk-found-requires
+walk-found-requires t c = c.in_ok-inputs.ensures.found
 
 pub walk-returns-clause-reads : goal.walk-returns-clause-reads
 walk-returns-clause-reads t c =
-    c.in_ok-inputs.ensures.reads ∙ sym (collections_of-parts (expr_tree c.args.expr.now))
+    c.in_ok-walked.ensures.reads ∙ c.in_ok-inputs.ensures.reads
+    ∙ sym (collections_of-parts (expr_tree c.args.expr.now))
 
 pub walk-returns-clause-fault : goal.walk-returns-clause-fault
 walk-returns-clause-fault t c =
     let is_there : ByteList → Bool = λ name. is_known name c.args.names.now in
     fault_found c.args.roots c.args.place c.place_in.result is_there (expr_tree c.args.expr.now)
-    c.in_ok-own.own c.in_ok-inputs.field-0.inputs.fault c.or.result c.or.ensures
-    c.in_ok-own.ensures c.place_in.ensures c.in_ok-inputs.ensures.fault
+    c.in_ok-own.own c.in_ok-inputs.field-0.inputs.fault c.in_ok-walked.walked.fault
+    c.in_ok-walked.ensures.fault c.in_ok-own.ensures c.place_in.ensures c.in_ok-inputs.ensures.fault
 
 pub walk-returns-clause-held : goal.walk-returns-clause-held
 walk-returns-clause-held t c = λ none.
     let own = c.in_ok-own.own in
     let below = c.in_ok-inputs.field-0.inputs.fault in
-    let both = sym c.or.ensures ∙ none in
-    c.in_ok-within.ensures (none_first own below both) (none_second own below both)
+    let both = sym c.in_ok-walked.ensures.fault ∙ none in
+    subst (λ (w : Within). IsHeld w (expr_tree c.args.expr.now)) (sym c.in_ok-walked.ensures.within)
+    (c.in_ok-within.ensures (none_first own below both) (none_second own below both))

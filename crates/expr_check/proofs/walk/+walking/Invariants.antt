@@ -14,24 +14,31 @@ use Rattle.expr_check.proofs.walk.+walking.Given as goal
 -- what was found so far, and then what is so of the inputs to come
 abbrev pub invariant-walk_inputs-loop-k : goal.invariant-walk_inputs-loop-k
 invariant-walk_inputs-loop-k l = record {
-  orders : l.orders.items ++ orders_of (inputs_of (drop l.k (inputs_in (expr_tree l.expr))))
+  orders :
+      l.below.inputs.orders.items ++ orders_of (inputs_of (drop l.k (inputs_in (expr_tree l.expr))))
       ≡ orders_of (inputs_of (inputs_in (expr_tree l.expr)));
-  fields : l.fields.items ++ all_fields (inputs_of (drop l.k (inputs_in (expr_tree l.expr))))
+  fields :
+      l.below.inputs.fields.items ++ all_fields (inputs_of (drop l.k (inputs_in (expr_tree l.expr))))
       ≡ all_fields (inputs_of (inputs_in (expr_tree l.expr)));
-  keys : l.keys.items ++ all_keys (inputs_of (drop l.k (inputs_in (expr_tree l.expr))))
+  keys :
+      l.below.inputs.keys.items ++ all_keys (inputs_of (drop l.k (inputs_in (expr_tree l.expr))))
       ≡ all_keys (inputs_of (inputs_in (expr_tree l.expr)));
-  keyless : option_or l.keyless (keyless_in (inputs_of (drop l.k (inputs_in (expr_tree l.expr)))))
+  keyless :
+      option_or l.below.inputs.keyless
+      (keyless_in (inputs_of (drop l.k (inputs_in (expr_tree l.expr)))))
       ≡ keyless_in (inputs_of (inputs_in (expr_tree l.expr)));
   reads :
-      fold with_name l.reads (all_searched (inputs_of (drop l.k (inputs_in (expr_tree l.expr)))))
+      fold with_name l.below.inputs.reads
+      (all_searched (inputs_of (drop l.k (inputs_in (expr_tree l.expr)))))
       ≡ fold with_name (once (read_by (operator_in (expr_tree l.expr))))
       (all_searched (inputs_of (inputs_in (expr_tree l.expr))));
-  fault : option_or l.fault
+  fault : option_or l.below.inputs.fault
       (faults_where l.roots l.place (λ name. is_known name l.names)
       (inputs_of (drop l.k (inputs_in (expr_tree l.expr)))))
       ≡ faults_where l.roots l.place (λ name. is_known name l.names)
       (inputs_of (inputs_in (expr_tree l.expr)));
-  held : l.fault ≡ None → AreHeld l.withins.items (take l.k (inputs_in (expr_tree l.expr)));
+  held : l.below.inputs.fault ≡ None
+      → AreHeld l.below.withins.items (take l.k (inputs_in (expr_tree l.expr)));
 }
 
 -- an input is lower than its expression

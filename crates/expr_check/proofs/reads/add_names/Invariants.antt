@@ -1,6 +1,6 @@
 use Rattle.std.proofs.Common.{◌≡◌, fold}
 use Rattle.expr_check.specs.Reads.{with_name}
-use Rattle.expr_check.proofs.reads.with_names.Given as goal
+use Rattle.expr_check.proofs.reads.add_names.Given as goal
 
 -- the names so far are added
 abbrev pub invariant-loop-name : goal.invariant-loop-name
