@@ -11,7 +11,12 @@ use std::alloc::Global;
 use std::thread::Threads;
 use stream_handler::{Outcome, run_expression, run_plain_expression, run_request};
 use stream_site::PlainSite;
-use tuple_values::{Bytes, Memory, Tuples};
+use tuple_values::{Bytes, Memory, Text, Tuple, Tuples};
+
+fn push_tuple(alloc: Global, out: &mut Bytes, tuple: &Tuple) -> Result<(), Memory> {
+    let text = tuple_text(alloc, tuple)?;
+    out.extend(text.as_slice())
+}
 
 // The tuples, with a blank between them.
 fn push_tuples(alloc: Global, out: &mut Bytes, docs: &Tuples) -> Result<(), Memory> {
@@ -19,24 +24,33 @@ fn push_tuples(alloc: Global, out: &mut Bytes, docs: &Tuples) -> Result<(), Memo
         if k > 0 {
             out.extend(b" ")?;
         }
-        out.extend(tuple_text(alloc, docs.get(k))?.as_slice())?;
+        push_tuple(alloc, out, docs.get(k))?;
     }
     Ok(())
 }
 
-// What an answer says, in one line.
-fn line_of(alloc: Global, outcome: Outcome) -> Result<Bytes, Memory> {
-    let mut out = Bytes::new(alloc);
+fn push_text(out: &mut Bytes, text: &Option<Text>) -> Result<(), Memory> {
+    match text {
+        Some(text) => out.extend(text.as_str().as_bytes()),
+        None => Ok(()),
+    }
+}
+
+fn push_outcome(alloc: Global, out: &mut Bytes, outcome: &Outcome) -> Result<(), Memory> {
     match outcome {
-        Outcome::Indexed => out.extend(b"indexed")?,
-        Outcome::Refused { msg, .. } => out.extend(msg.as_str().as_bytes())?,
+        Outcome::Indexed => out.extend(b"indexed"),
+        Outcome::Refused { msg, .. } => out.extend(msg.as_str().as_bytes()),
         Outcome::ResultSet { docs, exception } => {
-            push_tuples(alloc, &mut out, &docs)?;
-            if let Some(text) = exception {
-                out.extend(text.as_str().as_bytes())?;
-            }
+            push_tuples(alloc, out, docs)?;
+            push_text(out, exception)
         }
     }
+}
+
+// What an answer says, in one line.
+fn line_of(alloc: Global, outcome: &Outcome) -> Result<Bytes, Memory> {
+    let mut out = Bytes::new(alloc);
+    push_outcome(alloc, &mut out, outcome)?;
     Ok(out)
 }
 
@@ -68,6 +82,37 @@ fn run_text<R: Threads + Sync>(
     run_expression(alloc, rt, site, board, text.as_bytes(), &NoGate)
 }
 
+// What the update of these words is answered.
+fn run_update<R: Threads + Sync>(
+    alloc: Global,
+    rt: &R,
+    site: &mut PlainSite,
+    board: &mut Board,
+    commit: &str,
+    words: &str,
+) -> Result<Outcome, Memory>
+    requires { IsKept board.old.shown }
+    ensures { IsKept board.new.shown }
+{
+    let request = update_of(alloc, commit, words)?;
+    run(alloc, rt, site, board, &request)
+}
+
+// What the action of these words is answered.
+fn run_action<R: Threads + Sync>(
+    alloc: Global,
+    rt: &R,
+    site: &mut PlainSite,
+    board: &mut Board,
+    words: &str,
+) -> Result<Outcome, Memory>
+    requires { IsKept board.old.shown }
+    ensures { IsKept board.new.shown }
+{
+    let request = action_of(alloc, site.names(), words)?;
+    run(alloc, rt, site, board, &request)
+}
+
 // What a case is answered.
 fn outcome_of<R: Threads + Sync>(
     alloc: Global,
@@ -80,21 +125,33 @@ fn outcome_of<R: Threads + Sync>(
     ensures { IsKept board.new.shown }
 {
     if let Some(words) = case.strip_prefix("update ") {
-        let request = update_of(alloc, "true", words)?;
-        return run(alloc, rt, site, board, &request);
+        return run_update(alloc, rt, site, board, "true", words);
     }
     if let Some(words) = case.strip_prefix("pending ") {
-        let request = update_of(alloc, "false", words)?;
-        return run(alloc, rt, site, board, &request);
+        return run_update(alloc, rt, site, board, "false", words);
     }
     if let Some(words) = case.strip_prefix("action ") {
-        let request = action_of(alloc, site.names(), words)?;
-        return run(alloc, rt, site, board, &request);
+        return run_action(alloc, rt, site, board, words);
     }
     match case.strip_prefix("eval ") {
         Some(text) => run_plain_expression(alloc, rt, site, text.as_bytes(), &NoGate),
         None => run_text(alloc, rt, site, board, case),
     }
+}
+
+// What a case is answered, in one line.
+fn told<R: Threads + Sync>(
+    alloc: Global,
+    rt: &R,
+    site: &mut PlainSite,
+    board: &mut Board,
+    case: &str,
+) -> Result<Bytes, Memory>
+    requires { IsKept board.old.shown }
+    ensures { IsKept board.new.shown }
+{
+    let outcome = outcome_of(alloc, rt, site, board, case)?;
+    line_of(alloc, &outcome)
 }
 
 /// The answer to one case: `update NAME BODY` is a body of an update with a commit, `pending NAME BODY`
@@ -111,7 +168,7 @@ pub fn answer<R: Threads + Sync>(
     requires { IsKept board.old.shown }
     ensures { IsKept board.new.shown }
 {
-    let outcome = outcome_of(alloc, rt, site, board, case)?;
+    let line = told(alloc, rt, site, board, case)?;
     run_daemons(alloc, rt, site, board, &NoGate)?;
-    line_of(alloc, outcome)
+    Ok(line)
 }

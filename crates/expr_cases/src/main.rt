@@ -1,27 +1,67 @@
 //! Cases of expressions as data: one case a line of input, and its answer on the same line of output.
 #![tactic(auto)]
 
+ghost use Rattle.daemon_board.specs.Rising.{IsKept};
+
 mod case;
 mod places;
 mod requests;
 mod sites;
 
-use places::{answer_line, begin};
+use places::{Place, answer_line, begin};
+use std::alloc::Global;
 use std::io::{self, BufRead, BufReader, BufWriter, Write};
+use std::thread::Threads;
 
 /// A shard's counted bytes are at most this, where no case says otherwise.
 const LIMIT: u64 = 1_000_000;
 
-fn main(rt: HostRuntime) -> anyhow::Result<()> {
-    let alloc = rt.alloc();
-    let mut place = begin(alloc, LIMIT, "c=2 d=2")?;
-    let mut out = BufWriter::new(alloc, io::writer(&rt))?;
-    for line in BufReader::new(alloc, rt.reader())?.lines(alloc) {
-        let line = line?;
-        let answer = answer_line(alloc, &rt, &mut *place, line.as_str())?;
-        out.write_all(answer.as_slice())?;
-        out.write_all(b"\n")?;
+fn write_answer<R: Threads + Sync, W: Write>(
+    alloc: Global,
+    rt: &R,
+    place: &mut Place,
+    out: &mut W,
+    line: &str,
+) -> anyhow::Result<()>
+    requires { IsKept place.old.board.shown }
+    ensures { IsKept place.new.board.shown }
+{
+    let answer = answer_line(alloc, rt, place, line)?;
+    out.write_all(answer.as_slice())?;
+    out.write_all(b"\n")?;
+    Ok(())
+}
+
+// The cases are the lines of the input, and the threads are those of the second handle.
+fn write_answers<R: Threads + Sync, W: Write>(
+    input: &HostRuntime,
+    rt: &R,
+    place: &mut Place,
+    out: &mut W,
+) -> anyhow::Result<()>
+    requires { IsKept place.old.board.shown }
+{
+    let alloc = input.alloc();
+    for line in BufReader::new(alloc, input.reader())?.lines(alloc) {
+        write_answer(alloc, rt, place, out, line?.as_str())?;
     }
+    Ok(())
+}
+
+fn answer_all<R: Threads + Sync>(
+    input: &HostRuntime,
+    rt: &R,
+    place: &mut Place,
+) -> anyhow::Result<()>
+    requires { IsKept place.old.board.shown }
+{
+    let mut out = BufWriter::new(input.alloc(), io::writer(input))?;
+    write_answers(input, rt, place, &mut out)?;
     out.flush()?;
     Ok(())
+}
+
+fn main(rt: HostRuntime) -> anyhow::Result<()> {
+    let mut place = begin(rt.alloc(), LIMIT, "c=2 d=2")?;
+    answer_all(&rt, &rt, &mut *place)
 }

@@ -23,11 +23,20 @@ pub fn begin(alloc: Global, limit: u64, words: &str) -> Result<Box<Place>, Memor
     ensures { IfOk result (λ place. IsKept place.value.board.shown) }
 {
     let site = start(alloc, limit, words)?;
-    let place = Place {
-        site,
-        board: Board::empty(alloc),
-    };
-    Ok(Box::new(alloc, place)?)
+    Ok(Box::new(
+        alloc,
+        Place {
+            site,
+            board: Board::empty(alloc),
+        },
+    )?)
+}
+
+// What a line that begins anew is answered.
+fn site_told(alloc: Global) -> Result<Bytes, Memory> {
+    let mut told = Bytes::new(alloc);
+    told.extend(b"site")?;
+    Ok(told)
 }
 
 // The place begins anew, where the limit stands first.
@@ -35,14 +44,9 @@ fn renew(alloc: Global, place: &mut Place, words: &str) -> Result<Bytes, Memory>
     requires { IsKept place.old.board.shown }
     ensures { IsKept place.new.board.shown }
 {
-    let mut told = Bytes::new(alloc);
-    told.extend(b"site")?;
-    let site = named(alloc, words)?;
-    *place = Place {
-        site,
-        board: Board::empty(alloc),
-    };
-    Ok(told)
+    place.site = named(alloc, words)?;
+    place.board = Board::empty(alloc);
+    site_told(alloc)
 }
 
 /// The answer to one line: `site LIMIT NAME=SHARDS ..` is a new place, and each other line a case.

@@ -3,24 +3,31 @@ use form_request::{Handler, Param, Params, Request};
 use std::alloc::Global;
 use tuple_values::{Bytes, Memory, Names, Text};
 
-fn param(alloc: Global, name: &str, value: &str) -> Result<Param, Memory> {
-    Ok(Param {
-        name: Text::of(alloc, name)?,
-        value: Text::of(alloc, value)?,
-    })
+fn push_param(alloc: Global, params: &mut Params, name: &str, value: &str) -> Result<(), Memory> {
+    let name = Text::of(alloc, name)?;
+    let value = Text::of(alloc, value)?;
+    params.push(Param { name, value })
+}
+
+fn commit_params(alloc: Global, commit: &str) -> Result<Params, Memory> {
+    let mut params = Params::new(alloc);
+    push_param(alloc, &mut params, "commit", commit)?;
+    Ok(params)
+}
+
+fn body_of(alloc: Global, body: &str) -> Result<Bytes, Memory> {
+    let mut bytes = Bytes::new(alloc);
+    bytes.extend(body.as_bytes())?;
+    Ok(bytes)
 }
 
 // An update of a collection, with a commit or without one.
 fn update(alloc: Global, collection: &str, commit: &str, body: &str) -> Result<Request, Memory> {
-    let mut bytes = Bytes::new(alloc);
-    bytes.extend(body.as_bytes())?;
-    let mut params = Params::new(alloc);
-    params.push(param(alloc, "commit", commit)?)?;
     Ok(Request {
         handler: Handler::Update,
         collection: Text::of(alloc, collection)?,
-        params,
-        body: bytes,
+        params: commit_params(alloc, commit)?,
+        body: body_of(alloc, body)?,
         closes: false,
     })
 }
@@ -33,16 +40,20 @@ pub fn update_of(alloc: Global, commit: &str, words: &str) -> Result<Request, Me
     }
 }
 
+fn push_action(alloc: Global, params: &mut Params, words: &str) -> Result<(), Memory> {
+    match words.split_once(' ') {
+        Some((action, id)) => {
+            push_param(alloc, params, "action", action)?;
+            push_param(alloc, params, "id", id)
+        }
+        None => push_param(alloc, params, "action", words),
+    }
+}
+
 // The parameters that the words say: an action, and perhaps an id behind a blank.
 fn action_params(alloc: Global, words: &str) -> Result<Params, Memory> {
     let mut params = Params::new(alloc);
-    match words.split_once(' ') {
-        Some((action, id)) => {
-            params.push(param(alloc, "action", action)?)?;
-            params.push(param(alloc, "id", id)?)?;
-        }
-        None => params.push(param(alloc, "action", words)?)?,
-    }
+    push_action(alloc, &mut params, words)?;
     Ok(params)
 }
 

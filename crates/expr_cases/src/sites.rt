@@ -16,16 +16,21 @@ fn number(text: &str) -> u64 {
     }
 }
 
-// The collections of words such as `c=2`.
+// Adds the collection of a word such as `c=2`.
+fn push_name(alloc: Global, names: &mut Names, word: &str) -> Result<(), Memory> {
+    let (name, shards) = word.split_once('=').unwrap_or((word, ""));
+    let shards = u16::try_from(number(shards)).unwrap_or(0);
+    names.push(NameShards {
+        name: Text::of(alloc, name)?,
+        shards,
+    })
+}
+
+// The collections of such words.
 fn names_of(alloc: Global, words: &str) -> Result<Names, Memory> {
     let mut names = Names::new(alloc);
     for word in words.split_whitespace() {
-        let (name, shards) = word.split_once('=').unwrap_or((word, ""));
-        let shards = u16::try_from(number(shards)).unwrap_or(0);
-        names.push(NameShards {
-            name: Text::of(alloc, name)?,
-            shards,
-        })?;
+        push_name(alloc, &mut names, word)?;
     }
     Ok(names)
 }

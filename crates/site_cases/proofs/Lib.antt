@@ -1,3 +1,1 @@
-pub mod CellLemmas
-pub mod FieldLemmas
-pub mod ItemLemmas
+pub mod NameLemmas

@@ -1,10 +1,10 @@
 // One action, carried out at a site.
 ghost use Rattle.std.specs.Prelude.{◌≤◌};
 
-use crate::items::current_items;
-use shard_versions::Record;
+use case_items::current_items;
+use shard_versions::{CutMark, OwnMark, Record};
 use std::alloc::Global;
-use stream_site::{PlainSite, SiteFault, are_storable_writes, may_store_nowhere};
+use stream_site::{PlainSite, Sent, SiteFault, are_storable_writes, may_store_nowhere};
 use topic_book::{Binding, TopicKey};
 use tuple_values::{
     Bytes, FieldList, Memory, NameShards, Names, Text, Tuple, Value, Versions, Write, Writes,
@@ -20,12 +20,22 @@ const DESTINATION: &str = "d";
 pub fn begin(alloc: Global, limit: u64) -> Result<PlainSite, Memory>
     requires { limit ≤ 268435456 }
 {
+    PlainSite::start(alloc, collections(alloc)?, limit)
+}
+
+// The two collections.
+fn collections(alloc: Global) -> Result<Names, Memory> {
     let mut names = Names::new(alloc);
-    for name in [SOURCE, DESTINATION] {
-        let name = Text::of(alloc, name)?;
-        names.push(NameShards { name, shards: 2 })?;
-    }
-    PlainSite::start(alloc, names, limit)
+    push_collection(alloc, &mut names, SOURCE)?;
+    push_collection(alloc, &mut names, DESTINATION)?;
+    Ok(names)
+}
+
+fn push_collection(alloc: Global, names: &mut Names, name: &str) -> Result<(), Memory> {
+    names.push(NameShards {
+        name: Text::of(alloc, name)?,
+        shards: 2,
+    })
 }
 
 fn not_allowed(alloc: Global) -> Result<Text, Memory> {
@@ -40,21 +50,24 @@ fn destination_of(binding: &Binding) -> &str {
 }
 
 // What a refusal says. Want of memory stays.
-fn refusal(alloc: Global, fault: SiteFault) -> Result<Text, Memory> {
+fn refusal(alloc: Global, fault: &SiteFault) -> Result<Text, Memory> {
     let text = match fault {
         SiteFault::ShardFull {
             collection,
             shard,
             stand,
         } => {
-            let collection = collection.as_str();
+            let (collection, shard, stand) = (collection.as_str(), *shard, *stand);
             format!(in alloc; "ShardFull {collection} {shard} after {stand}")?
         }
         SiteFault::TopicBound { kept } => {
-            let (dest, query) = (destination_of(&kept), kept.q.as_str());
+            let (dest, query) = (destination_of(kept), kept.q.as_str());
             format!(in alloc; "TopicBound {dest} {query}")?
         }
-        SiteFault::BookFull { topics } => format!(in alloc; "BookFull {topics}")?,
+        SiteFault::BookFull { topics } => {
+            let topics = *topics;
+            format!(in alloc; "BookFull {topics}")?
+        }
         SiteFault::OutOfMemory { .. } => return Err(Memory::OutOfMemory),
     };
     Ok(Text::from_string(text))
@@ -80,54 +93,81 @@ fn numbers(alloc: Global, rest: &str) -> Result<Versions, Memory> {
     Ok(numbers)
 }
 
+fn push_number(alloc: Global, text: &mut String, number: u64) -> Result<(), Memory> {
+    let number = format!(in alloc; "{number}")?;
+    Ok(text.push_str(number.as_str())?)
+}
+
 // The numbers with a blank between them.
-fn numbers_text(alloc: Global, numbers: &Versions) -> Result<Text, Memory> {
-    let mut text = String::new(alloc);
+fn push_numbers(alloc: Global, text: &mut String, numbers: &Versions) -> Result<(), Memory> {
     for (k, number) in numbers.as_slice().iter().enumerate() {
         if k > 0 {
             text.push_str(" ")?;
         }
-        text.push_str(format!(in alloc; "{number}")?.as_str())?;
+        push_number(alloc, text, *number)?;
     }
+    Ok(())
+}
+
+fn numbers_text(alloc: Global, numbers: &Versions) -> Result<Text, Memory> {
+    let mut text = String::new(alloc);
+    push_numbers(alloc, &mut text, numbers)?;
     Ok(Text::from_string(text))
 }
 
+fn put_id(alloc: Global, document: &mut Tuple, id: &str) -> Result<(), Memory> {
+    let name = Text::of(alloc, "id")?;
+    document.put(name, Value::Text(Text::of(alloc, id)?))
+}
+
 // A document of this id alone.
-fn document(alloc: Global, id: &Text) -> Result<Tuple, Memory> {
+fn document(alloc: Global, id: &str) -> Result<Tuple, Memory> {
     let mut document = Tuple::empty(alloc);
-    document.put(
-        Text::of(alloc, "id")?,
-        Value::Text(Text::of(alloc, id.as_str())?),
-    )?;
+    put_id(alloc, &mut document, id)?;
     Ok(document)
 }
 
-fn puts(alloc: Global, ids: &FieldList) -> Result<Writes, Memory> {
+// Puts of documents of these ids alone.
+fn puts(alloc: Global, ids: &str) -> Result<Writes, Memory> {
     let mut writes = Writes::new(alloc);
-    for id in ids.as_slice() {
+    for id in ids.split_whitespace() {
         writes.push(Write::Put(document(alloc, id)?))?;
     }
     Ok(writes)
 }
 
-fn dels(alloc: Global, ids: &FieldList) -> Result<Writes, Memory> {
+fn dels(alloc: Global, ids: &str) -> Result<Writes, Memory> {
     let mut writes = Writes::new(alloc);
-    for id in ids.as_slice() {
-        writes.push(Write::Del(Text::of(alloc, id.as_str())?))?;
+    for id in ids.split_whitespace() {
+        writes.push(Write::Del(Text::of(alloc, id)?))?;
     }
     Ok(writes)
 }
 
 // An update of the source with a commit.
-fn write(alloc: Global, site: &mut PlainSite, writes: Writes) -> Result<Text, Memory> {
-    let source = Text::of(alloc, SOURCE)?;
-    if !site.knows(&source) || !are_storable_writes(&writes) {
+fn write_to(
+    alloc: Global,
+    site: &mut PlainSite,
+    source: &Text,
+    writes: Writes,
+) -> Result<Text, Memory> {
+    if !site.knows(source) || !are_storable_writes(&writes) {
         return not_allowed(alloc);
     }
-    match site.index(alloc, &source, writes, true) {
+    match site.index(alloc, source, writes, true) {
         Ok(count) => Ok(Text::from_string(format!(in alloc; "indexed {count}")?)),
-        Err(fault) => refusal(alloc, fault),
+        Err(fault) => refusal(alloc, &fault),
     }
+}
+
+fn update(alloc: Global, site: &mut PlainSite, ids: &str) -> Result<Text, Memory> {
+    let source = Text::of(alloc, SOURCE)?;
+    write_to(alloc, site, &source, puts(alloc, ids)?)
+}
+
+fn delete(alloc: Global, site: &mut PlainSite, ids: &str) -> Result<Text, Memory> {
+    let source = Text::of(alloc, SOURCE)?;
+    write_to(alloc, site, &source, dels(alloc, ids)?)
 }
 
 fn key_of(alloc: Global, id: &str) -> Result<TopicKey, Memory> {
@@ -136,26 +176,37 @@ fn key_of(alloc: Global, id: &str) -> Result<TopicKey, Memory> {
     Ok(TopicKey { checkpoints, id })
 }
 
-// A binding of a topic on the source from its first versions on; `-` for no destination.
-fn binding_of(alloc: Global, dest: &str, query: &str) -> Result<Binding, Memory> {
-    let src = Text::of(alloc, SOURCE)?;
-    let q = Text::of(alloc, query)?;
+// The field that each document has.
+fn id_alone(alloc: Global) -> Result<FieldList, Memory> {
     let mut fields = FieldList::new(alloc);
     fields.push(Text::of(alloc, "id")?)?;
-    let dest = if dest == "-" {
-        None
-    } else {
-        Some(Text::of(alloc, dest)?)
-    };
+    Ok(fields)
+}
+
+// The first versions of the two shards.
+fn first_versions(alloc: Global) -> Result<Versions, Memory> {
     let mut init = Versions::new(alloc);
     init.push(0)?;
     init.push(0)?;
+    Ok(init)
+}
+
+// The destination that the word says; `-` for none.
+fn destination(alloc: Global, word: &str) -> Result<Option<Text>, Memory> {
+    if word == "-" {
+        return Ok(None);
+    }
+    Ok(Some(Text::of(alloc, word)?))
+}
+
+// A binding of a topic on the source from its first versions on; `-` for no destination.
+fn binding_of(alloc: Global, dest: &str, query: &str) -> Result<Binding, Memory> {
     Ok(Binding {
-        src,
-        q,
-        fields,
-        dest,
-        init,
+        src: Text::of(alloc, SOURCE)?,
+        q: Text::of(alloc, query)?,
+        fields: id_alone(alloc)?,
+        dest: destination(alloc, dest)?,
+        init: first_versions(alloc)?,
     })
 }
 
@@ -172,32 +223,58 @@ fn bind_topic(
     Ok(Some(site.bind_topic(alloc, key, binding)))
 }
 
+fn bind_to(
+    alloc: Global,
+    site: &mut PlainSite,
+    key: &TopicKey,
+    binding: Binding,
+) -> Result<Text, Memory> {
+    match bind_topic(alloc, site, key, binding)? {
+        Some(Ok(upto)) => numbers_text(alloc, &upto),
+        Some(Err(fault)) => refusal(alloc, &fault),
+        None => not_allowed(alloc),
+    }
+}
+
 fn bind(alloc: Global, site: &mut PlainSite, rest: &str) -> Result<Text, Memory> {
     let (topic, rest) = rest.split_once(' ').unwrap_or((rest, ""));
     let (dest, query) = rest.split_once(' ').unwrap_or((rest, ""));
     let key = key_of(alloc, topic)?;
-    let binding = binding_of(alloc, dest, query)?;
-    match bind_topic(alloc, site, &key, binding)? {
-        Some(Ok(upto)) => numbers_text(alloc, &upto),
-        Some(Err(fault)) => refusal(alloc, fault),
-        None => not_allowed(alloc),
+    bind_to(alloc, site, &key, binding_of(alloc, dest, query)?)
+}
+
+// How many topics were bound, and what the next is answered.
+fn filled(alloc: Global, count: u64, fault: &SiteFault) -> Result<Text, Memory> {
+    let answer = refusal(alloc, fault)?;
+    let answer = answer.as_str();
+    Ok(Text::from_string(format!(in alloc; "bound {count} {answer}")?))
+}
+
+// Binds the topic behind so many others: none where it is bound, else the answer.
+fn fill_behind(
+    alloc: Global,
+    site: &mut PlainSite,
+    key: &TopicKey,
+    count: u64,
+) -> Result<Option<Text>, Memory> {
+    match bind_topic(alloc, site, key, binding_of(alloc, "-", "*:*")?)? {
+        Some(Ok(_)) => Ok(None),
+        Some(Err(fault)) => Ok(Some(filled(alloc, count, &fault)?)),
+        None => Ok(Some(not_allowed(alloc)?)),
     }
+}
+
+fn filling_key(alloc: Global, count: u64) -> Result<TopicKey, Memory> {
+    let id = format!(in alloc; "filling{count}")?;
+    key_of(alloc, id.as_str())
 }
 
 // Binds topics of other names until one isn't bound: how many were, and what the next is answered.
 fn fill(alloc: Global, site: &mut PlainSite) -> Result<Text, Memory> {
     for count in 0..10_000 {
-        let id = format!(in alloc; "filling{count}")?;
-        let key = key_of(alloc, id.as_str())?;
-        let binding = binding_of(alloc, "-", "*:*")?;
-        match bind_topic(alloc, site, &key, binding)? {
-            Some(Ok(_)) => {}
-            Some(Err(fault)) => {
-                let answer = refusal(alloc, fault)?;
-                let answer = answer.as_str();
-                return Ok(Text::from_string(format!(in alloc; "bound {count} {answer}")?));
-            }
-            None => return not_allowed(alloc),
+        let key = filling_key(alloc, count)?;
+        if let Some(answer) = fill_behind(alloc, site, &key, count)? {
+            return Ok(answer);
         }
     }
     Text::of(alloc, "none refused")
@@ -208,60 +285,112 @@ fn state(alloc: Global, site: &mut PlainSite, topic: &str) -> Result<Text, Memor
     match site.topic_state(alloc, &key) {
         Ok(Some(upto)) => numbers_text(alloc, &upto),
         Ok(None) => Text::of(alloc, "unbound"),
-        Err(fault) => refusal(alloc, fault),
+        Err(fault) => refusal(alloc, &fault),
     }
 }
 
 fn store(alloc: Global, site: &mut PlainSite, rest: &str) -> Result<Text, Memory> {
     let (topic, rest) = rest.split_once(' ').unwrap_or((rest, ""));
     let key = key_of(alloc, topic)?;
-    let upto = numbers(alloc, rest)?;
-    if !may_store_nowhere(alloc, site, &key, &upto)? {
+    store_to(alloc, site, &key, numbers(alloc, rest)?)
+}
+
+fn store_to(
+    alloc: Global,
+    site: &mut PlainSite,
+    key: &TopicKey,
+    upto: Versions,
+) -> Result<Text, Memory> {
+    if !may_store_nowhere(alloc, site, key, &upto)? {
         return not_allowed(alloc);
     }
-    match site.store_topic(alloc, &key, upto) {
+    match site.store_topic(alloc, key, upto) {
         Ok(()) => Text::of(alloc, "done"),
-        Err(fault) => refusal(alloc, fault),
+        Err(fault) => refusal(alloc, &fault),
     }
+}
+
+fn sent_text(alloc: Global, sent: Sent) -> Result<Text, Memory> {
+    let (admitted, refused) = (sent.admitted, sent.refused);
+    Ok(Text::from_string(format!(in alloc; "admitted {admitted} refused {refused}")?))
 }
 
 // Delivers current documents of the source: those of these ids, or all where there is no id.
-fn send(alloc: Global, site: &mut PlainSite, ids: &FieldList) -> Result<Text, Memory> {
-    let src = Text::of(alloc, SOURCE)?;
-    let dest = Text::of(alloc, DESTINATION)?;
-    if !site.knows(&dest) || src.as_str() == dest.as_str() {
+fn send_to(
+    alloc: Global,
+    site: &mut PlainSite,
+    dest: &Text,
+    src: &Text,
+    ids: &FieldList,
+) -> Result<Text, Memory> {
+    if !site.knows(dest) || src.as_str() == dest.as_str() {
         return not_allowed(alloc);
     }
-    let batch = current_items(alloc, site, &src, ids)?;
-    match site.send(alloc, &dest, &src, batch) {
-        Ok(sent) => {
-            let (admitted, refused) = (sent.admitted, sent.refused);
-            Ok(Text::from_string(format!(in alloc; "admitted {admitted} refused {refused}")?))
-        }
-        Err(fault) => refusal(alloc, fault),
+    let batch = current_items(alloc, site, src, ids)?;
+    match site.send(alloc, dest, src, batch) {
+        Ok(sent) => sent_text(alloc, sent),
+        Err(fault) => refusal(alloc, &fault),
     }
 }
 
-// The looks, each a cell with how many entries were seen, and then the own steps, each a cell with
-// the place of its first entry and how many there are; `-` for none.
-fn record_text(alloc: Global, record: &Record) -> Result<Text, Memory> {
-    let mut text = String::from_str(alloc, "looks")?;
-    if record.marks.len() == 0 {
+fn send(alloc: Global, site: &mut PlainSite, rest: &str) -> Result<Text, Memory> {
+    let ids = words(alloc, rest)?;
+    let src = Text::of(alloc, SOURCE)?;
+    let dest = Text::of(alloc, DESTINATION)?;
+    send_to(alloc, site, &dest, &src, &ids)
+}
+
+fn push_look(alloc: Global, text: &mut String, mark: &CutMark) -> Result<(), Memory> {
+    let (cell, upto) = (mark.cell, mark.upto);
+    let look = format!(in alloc; " {cell}:{upto}")?;
+    Ok(text.push_str(look.as_str())?)
+}
+
+// Each look is a cell with how many entries were seen; `-` for none.
+fn push_looks(alloc: Global, text: &mut String, marks: &[CutMark]) -> Result<(), Memory> {
+    text.push_str("looks")?;
+    if marks.is_empty() {
         text.push_str(" -")?;
     }
-    for mark in record.marks.as_slice() {
-        let (cell, upto) = (mark.cell, mark.upto);
-        text.push_str(format!(in alloc; " {cell}:{upto}")?.as_str())?;
+    for mark in marks {
+        push_look(alloc, text, mark)?;
     }
+    Ok(())
+}
+
+fn push_step(alloc: Global, text: &mut String, own: &OwnMark) -> Result<(), Memory> {
+    let (cell, from, count) = (own.cell, own.from, own.count);
+    let step = format!(in alloc; " {cell}:{from}+{count}")?;
+    Ok(text.push_str(step.as_str())?)
+}
+
+// Each own step is a cell with the place of its first entry and how many there are; `-` for none.
+fn push_steps(alloc: Global, text: &mut String, own: &[OwnMark]) -> Result<(), Memory> {
     text.push_str(" own")?;
-    if record.own.len() == 0 {
+    if own.is_empty() {
         text.push_str(" -")?;
     }
-    for own in record.own.as_slice() {
-        let (cell, from, count) = (own.cell, own.from, own.count);
-        text.push_str(format!(in alloc; " {cell}:{from}+{count}")?.as_str())?;
+    for step in own {
+        push_step(alloc, text, step)?;
     }
+    Ok(())
+}
+
+// The looks, and then the own steps.
+fn push_record(alloc: Global, text: &mut String, record: &Record) -> Result<(), Memory> {
+    push_looks(alloc, text, record.marks.as_slice())?;
+    push_steps(alloc, text, record.own.as_slice())
+}
+
+fn record_text(alloc: Global, record: &Record) -> Result<Text, Memory> {
+    let mut text = String::new(alloc);
+    push_record(alloc, &mut text, record)?;
     Ok(Text::from_string(text))
+}
+
+fn record(alloc: Global, site: &mut PlainSite) -> Result<Text, Memory> {
+    let record = site.take_record();
+    record_text(alloc, &record)
 }
 
 // The site begins anew with this limit.
@@ -279,19 +408,13 @@ fn limit(alloc: Global, site: &mut PlainSite, rest: &str) -> Result<Text, Memory
 pub fn answer(alloc: Global, site: &mut PlainSite, case: &str) -> Result<Text, Memory> {
     let (action, rest) = case.split_once(' ').unwrap_or((case, ""));
     match action {
-        "update" => {
-            let writes = puts(alloc, &words(alloc, rest)?)?;
-            write(alloc, site, writes)
-        }
-        "delete" => {
-            let writes = dels(alloc, &words(alloc, rest)?)?;
-            write(alloc, site, writes)
-        }
+        "update" => update(alloc, site, rest),
+        "delete" => delete(alloc, site, rest),
         "bind" => bind(alloc, site, rest),
         "state" => state(alloc, site, rest),
         "store" => store(alloc, site, rest),
-        "send" => send(alloc, site, &words(alloc, rest)?),
-        "record" => record_text(alloc, &site.take_record()),
+        "send" => send(alloc, site, rest),
+        "record" => record(alloc, site),
         "fill" => fill(alloc, site),
         "limit" => limit(alloc, site, rest),
         _ => Text::of(alloc, "no such action"),

@@ -20,22 +20,41 @@ pub fn collections(alloc: Global, count: u64, shards: u16) -> Result<Names, Memo
     Ok(names)
 }
 
+fn put_text(alloc: Global, document: &mut Tuple, name: &str, value: &str) -> Result<(), Memory> {
+    let name = Text::of(alloc, name)?;
+    document.put(name, Value::Text(Text::of(alloc, value)?))
+}
+
+fn put_number(alloc: Global, document: &mut Tuple, name: &str, value: i64) -> Result<(), Memory> {
+    document.put(Text::of(alloc, name)?, Value::Long(value))
+}
+
+// A document of this id alone.
+fn of_id(alloc: Global, id: &str) -> Result<Tuple, Memory> {
+    let mut document = Tuple::empty(alloc);
+    put_text(alloc, &mut document, "id", id)?;
+    Ok(document)
+}
+
 // The document of a number, which is its id.
 fn document(alloc: Global, number: u64) -> Result<Tuple, Memory> {
-    let id = Text::from_string(format!(in alloc; "{number}")?);
-    let mut document = Tuple::empty(alloc);
-    document.put(Text::of(alloc, "id")?, Value::Text(id))?;
-    document.put(Text::of(alloc, "a_s")?, Value::Text(Text::of(alloc, "a")?))?;
+    let id = format!(in alloc; "{number}")?;
+    let mut document = of_id(alloc, id.as_str())?;
+    put_text(alloc, &mut document, "a_s", "a")?;
+    Ok(document)
+}
+
+// The document of the id 1, which has this number too.
+fn numbered(alloc: Global, number: i64) -> Result<Tuple, Memory> {
+    let mut document = of_id(alloc, "1")?;
+    put_number(alloc, &mut document, "n_i", number)?;
     Ok(document)
 }
 
 /// A put of the document with the id 1, which has this number too.
 pub fn put_one(alloc: Global, number: i64) -> Result<Writes, Memory> {
-    let mut document = Tuple::empty(alloc);
-    document.put(Text::of(alloc, "id")?, Value::Text(Text::of(alloc, "1")?))?;
-    document.put(Text::of(alloc, "n_i")?, Value::Long(number))?;
     let mut writes = Writes::new(alloc);
-    writes.push(Write::Put(document))?;
+    writes.push(Write::Put(numbered(alloc, number)?))?;
     Ok(writes)
 }
 

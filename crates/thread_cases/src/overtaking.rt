@@ -1,16 +1,16 @@
 // Two workers, of which one delivers a version of a document that the other has overtaken.
 ghost use Rattle.std.specs.Prelude.{◌≡◌};
 ghost use Rattle.running_site.specs.Passes.{number_of};
-ghost use Rattle.thread_cases.specs.Workers.{IsAt};
+ghost use Rattle.site_threads.specs.Workers.{IsAt};
 
 use crate::baton::Baton;
-use crate::delivering::{FIRST, SECOND, deliver_once};
 use crate::documents::{collection, put_one};
-use crate::indexing::index_writes;
 use io_edge::NoGate;
 use running_site::{Pass, Site};
+use site_threads::{FIRST, SECOND, deliver_once, index_writes};
 use std::alloc::Global;
 use std::sync::Wait;
+use update_sink::TopicRun;
 
 // Puts the document with this number.
 fn put<R: Wait>(rt: &R, alloc: Global, site: &Site, pass: &mut Pass, number: i64) -> Option<u64>
@@ -21,6 +21,16 @@ fn put<R: Wait>(rt: &R, alloc: Global, site: &Site, pass: &mut Pass, number: i64
     let collection = collection(alloc, 0).ok()?;
     let writes = put_one(alloc, number).ok()?;
     index_writes(rt, alloc, site, pass, &collection, writes)
+}
+
+// Delivers the document; how many writes of the delivery stand, if nothing is refused.
+fn deliver<R: Wait>(rt: &R, alloc: Global, site: &Site, pass: &mut Pass) -> Option<u64>
+    requires { IsAt site.now pass.old }
+    ensures own { IsAt site.now pass.new }
+    ensures number { number_of pass.new ≡ number_of pass.old }
+{
+    let run = deliver_once(rt, alloc, site, pass, FIRST, &NoGate)?;
+    Some(run.stand)
 }
 
 /// Puts a document; once the other worker has read it, puts it again, delivers that, and lets the
@@ -40,9 +50,17 @@ pub fn overtake<R: Wait>(
     baton.reach(1);
     baton.wait(2);
     put(rt, alloc, site, pass, 2)?;
-    let run = deliver_once(rt, alloc, site, pass, FIRST, &NoGate);
+    let stand = deliver(rt, alloc, site, pass);
     baton.reach(3);
-    Some(run?.stand)
+    stand
+}
+
+// The version up to which a run had read, if it read one document and no write of the delivery stands.
+fn overtaken(run: &TopicRun) -> Option<u64> {
+    if run.read != 1 || run.stand != 0 {
+        return None;
+    }
+    Some(*run.stored.get(0)?)
 }
 
 /// Delivers the document that was put first, and waits before it is sent until the other worker has
@@ -61,8 +79,5 @@ pub fn come_late<R: Wait>(
 {
     baton.wait(1);
     let run = deliver_once(rt, alloc, site, pass, SECOND, baton)?;
-    if run.read != 1 || run.stand != 0 {
-        return None;
-    }
-    Some(*run.stored.get(0)?)
+    overtaken(&run)
 }

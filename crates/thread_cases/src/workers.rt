@@ -1,49 +1,17 @@
-// Workers: each has a pass and a task, and is served in a thread of its own.
+// Workers, each served in a thread of its own.
 ghost use Rattle.std.specs.Prelude.{ℕ, ◌≡◌, ◌<◌, All, length, slice_index_or};
 ghost use Rattle.running_site.specs.Passes.{number_of};
-ghost use Rattle.thread_cases.specs.Workers.{IsAt, IsServed, IsWorkerAt, Worker};
+ghost use Rattle.site_threads.specs.Workers.{IsAt, IsWorkerAt, Worker};
+ghost use Rattle.thread_cases.specs.Serving.{IsServed};
 
 use crate::baton::Baton;
-use crate::delivering::deliver_all;
 use crate::indexing::index_all;
 use crate::overtaking::{come_late, overtake};
-use running_site::{Pass, Record, Site};
+use running_site::{Pass, Site};
+use site_threads::{Task, Worker, deliver_all};
 use std::alloc::Global;
 use std::sync::Wait;
 use std::thread::{Threads, for_each_mut};
-
-/// What a worker does.
-#[derive(Clone, Copy, Debug)]
-pub enum Task {
-    /// Puts these batches, from the first on, into the collection of this number, with a commit
-    /// behind each.
-    Index {
-        collection: u64,
-        first: u64,
-        batches: u64,
-    },
-    /// Runs a topic until so many documents were delivered.
-    Deliver {
-        wanted: u64,
-    },
-    /// Puts a document twice, and delivers it after another worker has read what was put first.
-    Overtake,
-    /// Delivers what another worker put first, after that one has delivered what it put again.
-    ComeLate,
-}
-
-/// A pass with a task; then how many documents or writes there were, if none was refused, and what
-/// the pass looked at and appended.
-#[derive(Drop)]
-pub struct WorkerOf<P> {
-    pub pass: P,
-    pub task: Task,
-    pub done: Option<u64>,
-    pub record: Option<Record>,
-}
-
-/// A worker at a site.
-pub type Worker = WorkerOf<Pass>;
 
 // Carries a task out by a pass; how many documents or writes there were, if nothing is refused.
 fn carry_out<R: Wait>(

@@ -1,6 +1,6 @@
 use Rattle.std.proofs.Common.{◌≡◌}
 use Rattle.running_site.specs.Passes.{number_of}
-use Rattle.thread_cases.specs.Workers.{IsAt}
+use Rattle.site_threads.specs.Workers.{IsAt}
 use Rattle.thread_cases.proofs.indexing.index_all.Given as goal
 
 -- the pass is of the same site, and has its number

@@ -2,7 +2,7 @@ use denote.Param.Send.{sendable}
 use Rattle.std.proofs.Common.{sym, subst}
 use Rattle.std.proofs.Crossing as heap
 use Rattle.atomic_table.proofs.shared.Seat.TheSendSync as seat
-use Rattle.thread_cases.specs.Workers.{IsWorkerAt}
+use Rattle.site_threads.specs.Workers.{IsWorkerAt}
 use Rattle.thread_cases.proofs.SendLemmas.{baton_sync, cell_send, site_sync}
 use Rattle.thread_cases.proofs.workers.serve_all.Goals as goal
 

@@ -1,0 +1,3 @@
+pub mod CellLemmas
+pub mod FieldLemmas
+pub mod ItemLemmas

@@ -1,8 +1,0 @@
-use Rattle.std.proofs.Common.{◌≡◌}
-use Rattle.running_site.specs.Passes.{number_of}
-use Rattle.thread_cases.specs.Workers.{IsAt}
-use Rattle.thread_cases.proofs.delivering.deliver_all.Given as goal
-
--- the pass is of the same site, and has its number
-abbrev pub invariant-loop : goal.invariant-loop
-invariant-loop g l = IsAt l.site l.pass × (number_of l.pass ≡ number_of l.fn.pass)

@@ -1,7 +1,0 @@
-use Rattle.std.proofs.Common.{◌≡◌, map}
-use Rattle.thread_cases.specs.Workers.{pass_in}
-use Rattle.thread_cases.proofs.opening.parted.Given as goal
-
--- the passes of the workers so far
-abbrev pub invariant-loop-worker : goal.invariant-loop-worker
-invariant-loop-worker l = l.passes ≡ map pass_in l.yielded

@@ -1,7 +1,0 @@
-use Rattle.std.proofs.Common.{◌≡◌, map}
-use Rattle.thread_cases.specs.Workers.{pass_in}
-use Rattle.thread_cases.proofs.opening.with_tasks.Given as goal
-
--- the passes so far have workers
-abbrev pub invariant-loop-pass : goal.invariant-loop-pass
-invariant-loop-pass l = map pass_in l.made.items ≡ l.yielded
