@@ -14,7 +14,7 @@ use std::alloc::Global;
 use tuple_values::{Names, Text, Words};
 
 /// What the program is to do, over which collections.
-#[derive(Debug, Drop)]
+#[derive(Drop)]
 pub enum Command {
     /// Evaluate one expression.
     Eval { names: Names },

@@ -4,8 +4,6 @@
 mod command;
 mod fault;
 mod names;
-#[cfg(test)]
-mod tests;
 mod word;
 
 pub use command::{Command, read_command, readings_agree};

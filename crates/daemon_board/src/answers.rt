@@ -6,7 +6,7 @@ use crate::BoardFault;
 
 /// How often a board gave each answer; each count stays at the greatest number of 64 bits. Want of
 /// memory counts as no answer.
-#[derive(Clone, Copy, Debug, PartialEq, Eq)]
+#[derive(Clone, Copy, PartialEq, Eq)]
 pub struct Answers {
     pub started: u64,
     pub taken: u64,

@@ -19,7 +19,7 @@ use tuple_values::{Memory, Text, Tuples};
 const DAEMONS: usize = 256;
 
 /// The board of daemons in memory, which tells what it holds.
-#[derive(Debug, Drop)]
+#[derive(Drop)]
 pub struct Board {
     daemons: Kept,
     put: u64,

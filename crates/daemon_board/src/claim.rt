@@ -2,7 +2,7 @@
 use expr_check::Checked;
 
 /// A daemon that is to be run: its number and its whole expression.
-#[derive(Debug, Drop)]
+#[derive(Drop)]
 pub struct Claim {
     pub number: u64,
     pub checked: Checked,

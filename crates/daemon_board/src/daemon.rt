@@ -7,7 +7,7 @@ use expr_check::Checked;
 use tuple_values::Text;
 
 /// Whether a daemon runs at its times.
-#[derive(Clone, Copy, Debug, PartialEq, Eq)]
+#[derive(Clone, Copy, PartialEq, Eq)]
 pub enum State {
     /// It does.
     Running,
@@ -31,7 +31,7 @@ impl State {
 /// A daemon: its number, how long it rests after a run in milliseconds, whether it ends after a run
 /// that reads nothing, when it is due, how often it ran, the text of its last run's fault, and its
 /// expression, which is out while it is run.
-#[derive(Debug, Drop)]
+#[derive(Drop)]
 pub struct Daemon {
     pub number: u64,
     pub interval: u64,

@@ -10,7 +10,7 @@ use indexmap::IndexMap;
 pub(crate) type Kept = IndexMap<String, Daemon>;
 
 /// Which daemon is looked for.
-#[derive(Clone, Copy, Debug, PartialEq, Eq)]
+#[derive(Clone, Copy, PartialEq, Eq)]
 pub(crate) enum Wanted {
     /// One that may run, put on the board after the one with a number.
     After(u64),

@@ -10,8 +10,6 @@ mod daemons;
 mod fault;
 mod finding;
 mod listing;
-#[cfg(test)]
-mod tests;
 
 pub use answers::Answers;
 pub use board::Board;

@@ -15,7 +15,7 @@ use stream_site::Turns;
 use tuple_values::{Memory, Text};
 
 /// A run of a daemon: how many tuples it read, and the text of its fault, where it has one.
-#[derive(Debug, Drop)]
+#[derive(Drop)]
 pub(crate) struct Once {
     pub(crate) read: u64,
     pub(crate) fault: Option<Text>,

@@ -3,7 +3,7 @@ use tuple_values::{Sequence, Tuple};
 
 /// A document to be delivered, as it is to be stored there, with the version of the write of its
 /// source that it comes from.
-#[derive(Debug, Drop)]
+#[derive(Drop)]
 pub struct BatchItem {
     pub version: u64,
     pub document: Tuple,
@@ -14,7 +14,7 @@ pub type Batch = Sequence<BatchItem>;
 
 /// How many items of a batch were admitted, and how many weren't, since as new a version or a
 /// newer one was there.
-#[derive(Clone, Copy, Debug, PartialEq, Eq, Drop)]
+#[derive(Clone, Copy, PartialEq, Eq, Drop)]
 pub struct Sent {
     pub admitted: u64,
     pub refused: u64,

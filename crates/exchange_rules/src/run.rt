@@ -21,7 +21,7 @@ pub enum RunFault {
 
 /// What an update of tuples did: a summary for each whole batch, how many of its writes stand, and
 /// why it stopped, if it did.
-#[derive(Debug, Drop)]
+#[derive(Drop)]
 pub struct Ran {
     pub summaries: Tuples,
     pub stand: u64,
@@ -30,7 +30,7 @@ pub struct Ran {
 
 /// What a topic delivered: the cut that it read, the checkpoint above which it did, the one that it
 /// stored, a summary for each batch, how many documents it read, and how many of its writes stand.
-#[derive(Debug, Drop)]
+#[derive(Drop)]
 pub struct TopicRun {
     pub cut: Cut,
     pub before: Versions,
@@ -41,7 +41,7 @@ pub struct TopicRun {
 }
 
 /// What a topic without a destination gave: its tuples, and the rest as of a run.
-#[derive(Debug, Drop)]
+#[derive(Drop)]
 pub struct TopicRead {
     pub cut: Cut,
     pub before: Versions,

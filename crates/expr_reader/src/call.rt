@@ -8,7 +8,7 @@ use std::marker::Model;
 use tuple_values::{Memory, Text};
 
 /// Bare or quoted text.
-#[derive(Debug, Drop)]
+#[derive(Drop)]
 pub struct Word {
     pub text: Text,
     pub quoted: bool,
@@ -16,7 +16,7 @@ pub struct Word {
 
 /// What stands behind a key and its equals sign.
 #[cycle(calls)]
-#[derive(Debug, Drop)]
+#[derive(Drop)]
 pub enum ArgValue {
     Plain(Word),
     Sub(Call),
@@ -24,7 +24,7 @@ pub enum ArgValue {
 
 /// An argument of a call: a word, a value under a key, a call, or a call under a new name.
 #[cycle(calls)]
-#[derive(Debug, Drop)]
+#[derive(Drop)]
 pub enum Arg {
     Plain(Word),
     Named { key: Text, value: ArgValue },
@@ -34,7 +34,7 @@ pub enum Arg {
 
 /// A function's name with its arguments.
 #[cycle(calls)]
-#[derive(Debug, Drop)]
+#[derive(Drop)]
 pub struct Call {
     pub name: Text,
     pub args: Args,
@@ -42,7 +42,7 @@ pub struct Call {
 
 /// Arguments in their order. A contract sees the list of their trees.
 #[cycle(calls)]
-#[derive(Debug, Drop)]
+#[derive(Drop)]
 pub struct Args {
     items: Vec<Arg>,
 }

@@ -10,8 +10,6 @@ mod machine;
 mod open_calls;
 mod open_text;
 mod reader;
-#[cfg(test)]
-mod tests;
 mod words;
 
 pub use call::{Arg, ArgValue, Args, Call, Word};

@@ -4,8 +4,6 @@
 mod fault;
 mod laws;
 mod reading;
-#[cfg(test)]
-mod tests;
 
 pub use fault::TextFault;
 pub use laws::texts_agree;

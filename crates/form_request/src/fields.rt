@@ -7,7 +7,7 @@ ghost use Rattle.form_request.specs.Fields.{fields_at, has, meets, is_word, list
 use httparse::spans::HeaderSpan;
 
 /// What a field's value is to be.
-#[derive(Clone, Copy, Debug)]
+#[derive(Clone, Copy)]
 pub enum Want {
     /// Any value.
     Anything,
@@ -18,7 +18,7 @@ pub enum Want {
 }
 
 /// The length of a body, as the head tells it.
-#[derive(Clone, Copy, Debug)]
+#[derive(Clone, Copy)]
 pub enum Length {
     /// No field tells it.
     Absent,

@@ -19,7 +19,7 @@ use tuple_values::{Memory, Names};
 pub const HEAD_LIMIT: usize = 16_384;
 
 /// What stands at the front of a stream.
-#[derive(Debug, Drop)]
+#[derive(Drop)]
 pub enum Front {
     /// Nothing, or a part of a head.
     Unfinished,

@@ -10,11 +10,7 @@ mod reading;
 mod request;
 mod requests;
 mod route;
-#[cfg(test)]
-mod samples;
 mod search;
-#[cfg(test)]
-mod tests;
 mod turning;
 
 pub use reading::{After, Message, Messages, Reading, one_reading, read_pieces};

@@ -6,7 +6,7 @@ use crate::{Handler, Params};
 use tuple_values::Text;
 
 /// The head of a message that isn't refused.
-#[derive(Debug, Drop)]
+#[derive(Drop)]
 pub struct Plan {
     pub handler: Handler,
     pub collection: Text,
@@ -24,14 +24,14 @@ pub struct Plan {
 }
 
 /// What becomes of a message by its head.
-#[derive(Debug, Drop)]
+#[derive(Drop)]
 pub enum Judged {
     Refuses(u16),
     Takes(Plan),
 }
 
 /// Where a stream stands.
-#[derive(Debug, Drop)]
+#[derive(Drop)]
 pub enum Stage {
     /// Before or inside the head of a message.
     Head,

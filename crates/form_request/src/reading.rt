@@ -8,7 +8,7 @@ use std::alloc::Global;
 use tuple_values::{Bytes, Memory, Names, Sequence};
 
 /// A whole message of a stream.
-#[derive(Debug, Drop)]
+#[derive(Drop)]
 pub struct Message {
     /// Whether `100 Continue` is said before the reply.
     pub asks: bool,
@@ -19,7 +19,7 @@ pub struct Message {
 pub type Messages = Sequence<Message>;
 
 /// What stands behind the last whole message that is read.
-#[derive(Debug, Drop)]
+#[derive(Drop)]
 pub enum After {
     /// A message that is refused with this status.
     Refusal(u16),
@@ -29,14 +29,14 @@ pub enum After {
 }
 
 /// What a stream holds.
-#[derive(Debug, Drop)]
+#[derive(Drop)]
 pub struct Reading {
     pub messages: Messages,
     pub after: After,
 }
 
 /// A stream that is read to the end of what has come.
-#[derive(Debug, Drop)]
+#[derive(Drop)]
 pub struct Reader {
     requests: Requests,
     messages: Messages,

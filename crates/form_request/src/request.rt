@@ -6,7 +6,7 @@ use std::alloc::Global;
 use tuple_values::{Bytes, Memory, Sequence, Text, TryCopy};
 
 /// Who answers a request.
-#[derive(Clone, Copy, Debug, PartialEq, Eq)]
+#[derive(Clone, Copy, PartialEq, Eq)]
 pub enum Handler {
     /// The path ends in `/stream`.
     Stream,
@@ -15,7 +15,7 @@ pub enum Handler {
 }
 
 /// A parameter, decoded.
-#[derive(Debug, Drop)]
+#[derive(Drop)]
 pub struct Param {
     pub name: Text,
     pub value: Text,
@@ -33,7 +33,7 @@ impl TryCopy for Param {
 }
 
 /// A whole request.
-#[derive(Debug, Drop)]
+#[derive(Drop)]
 pub struct Request {
     pub handler: Handler,
     /// The collection that the path names.
@@ -46,7 +46,7 @@ pub struct Request {
 }
 
 /// What a stream of requests answers.
-#[derive(Debug, Drop)]
+#[derive(Drop)]
 pub enum Step100 {
     /// The next request is whole.
     Whole(Request),

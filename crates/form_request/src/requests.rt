@@ -13,7 +13,7 @@ use tuple_values::{Memory, Names};
 
 /// The requests of a byte stream. A contract sees where the stream stands and the bytes that came
 /// and weren't taken.
-#[derive(Debug, Drop)]
+#[derive(Drop)]
 pub struct Requests {
     buf: Vec<u8>,
     /// The bytes before this place were taken.

@@ -5,7 +5,7 @@ ghost use Rattle.form_request.specs.Heads.{front_of};
 ghost use Rattle.form_request.specs.Searches.{IsSearched, TurnIs, EndIs};
 
 /// How far the search has come.
-#[derive(Clone, Copy, Debug)]
+#[derive(Clone, Copy)]
 pub struct Search {
     /// Once the head has begun, the number of bytes of the empty lines before it.
     pub blank: usize,
@@ -16,7 +16,7 @@ pub struct Search {
 }
 
 /// What a few more bytes show.
-#[derive(Clone, Copy, Debug)]
+#[derive(Clone, Copy)]
 pub enum Turn {
     /// The search goes on from there.
     On(Search),

@@ -14,7 +14,7 @@ use std::alloc::Global;
 use tuple_values::{Bytes, Memory, Names, TryCopy};
 
 /// What has come of a body.
-#[derive(Debug, Drop)]
+#[derive(Drop)]
 pub enum Body {
     /// `100 Continue` is still to be said.
     Asks,
@@ -26,7 +26,7 @@ pub enum Body {
 
 /// A step: what is answered, where the stream stands then, how many bytes were taken off its
 /// front, and how far the search in the others has come.
-#[derive(Debug, Drop)]
+#[derive(Drop)]
 pub struct Turned {
     pub answer: Step100,
     pub stage: Stage,
@@ -35,7 +35,7 @@ pub struct Turned {
 }
 
 /// A step that wanted memory: where the stream stood.
-#[derive(Debug, Drop)]
+#[derive(Drop)]
 pub struct Undone {
     pub stage: Stage,
     pub fault: Memory,

@@ -17,7 +17,7 @@ use tuple_values::{FieldList, Memory, Tuple};
 
 /// Makes one tuple of all tuples of a key, on an input on which they follow one another. It keeps
 /// the tuples of one key at a time.
-#[derive(Debug, Drop)]
+#[derive(Drop)]
 pub(crate) struct GroupKernel {
     alloc: Global,
     names: FieldList,

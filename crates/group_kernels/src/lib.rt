@@ -8,8 +8,6 @@ mod named;
 mod reduce;
 mod rolled;
 mod rollup;
-#[cfg(test)]
-mod tests;
 mod unique;
 mod work;
 

@@ -7,7 +7,7 @@ use std::alloc::Global;
 use tuple_values::{Memory, Text, TryCopy};
 
 /// A metric with its name, so that it is made once and not for each group.
-#[derive(Debug, Drop)]
+#[derive(Drop)]
 pub(crate) struct Named {
     pub name: Text,
     pub metric: Metric,

@@ -13,7 +13,7 @@ use std::alloc::Global;
 use tuple_values::{FieldList, Memory, TryCopy, Tuple};
 
 /// Gives for each key the first tuple of its group, with the first so many as the field `group`.
-#[derive(Debug, Drop)]
+#[derive(Drop)]
 pub struct ReduceKernel {
     groups: GroupKernel,
 }

@@ -14,7 +14,7 @@ use std::alloc::Global;
 use tuple_values::{FieldList, Memory, TryCopy, Tuple};
 
 /// Gives for each key its fields and the metrics of its tuples.
-#[derive(Debug, Drop)]
+#[derive(Drop)]
 pub struct RollupKernel {
     groups: GroupKernel,
 }

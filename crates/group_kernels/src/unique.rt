@@ -11,7 +11,7 @@ use std::alloc::Global;
 use tuple_values::{FieldList, Memory, TryCopy, Tuple};
 
 /// Gives the first tuple of each key of an input on which tuples of one key follow one another.
-#[derive(Debug, Drop)]
+#[derive(Drop)]
 pub struct UniqueKernel {
     over: FieldList,
     // The first of the run that goes on. It is given when the run has ended, so no copy is made.

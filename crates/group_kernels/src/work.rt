@@ -11,7 +11,7 @@ use std::alloc::Global;
 use tuple_values::{FieldList, Memory, Text, Tuple, Tuples, Value};
 
 /// What is made of them.
-#[derive(Debug, Drop)]
+#[derive(Drop)]
 pub(crate) enum Work {
     /// The first by a sort, with the first so many as its field `group`.
     Reduce(GroupOp),

@@ -16,7 +16,7 @@ use std::mem;
 use tuple_values::{Memory, Tuple};
 
 /// What is still to be given of the left tuple that came last.
-#[derive(Debug, Drop)]
+#[derive(Drop)]
 pub(crate) enum Held {
     Nothing,
     /// The tuple itself, which has no equal.

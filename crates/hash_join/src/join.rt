@@ -17,7 +17,7 @@ use tuple_values::{Memory, Tuple};
 /// Gives a left tuple over a right one for each two that are equal by pairs of fields, and a left
 /// tuple without an equal as it is where the join is outer. Input 0 gives the left tuples, input 1
 /// the right ones, which are read whole before the first left tuple.
-#[derive(Debug, Drop)]
+#[derive(Drop)]
 pub struct HashJoinKernel {
     alloc: Global,
     outer: bool,

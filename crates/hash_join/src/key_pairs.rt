@@ -9,7 +9,7 @@ use std::marker::Model;
 use tuple_values::{Bytes, FieldList, Memory, TryCopy, Tuple, compare, key_text};
 
 /// Pairs of fields. A contract sees the list of them.
-#[derive(Debug, Drop)]
+#[derive(Drop)]
 pub(crate) struct KeyPairs {
     on: OnSpec,
     left_names: FieldList,

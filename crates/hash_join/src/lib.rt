@@ -5,7 +5,5 @@ mod held;
 mod join;
 mod key_pairs;
 mod table;
-#[cfg(test)]
-mod tests;
 
 pub use join::HashJoinKernel;

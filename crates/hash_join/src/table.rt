@@ -8,7 +8,7 @@ use std::alloc::Global;
 use tuple_values::{Bytes, Memory, Tuple};
 
 /// For each key the tuples that were added under it, in order.
-#[derive(Debug, Drop)]
+#[derive(Drop)]
 pub(crate) struct Table {
     buckets: IndexMap<Vec<u8>, Vec<Tuple>>,
 }

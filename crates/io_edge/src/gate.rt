@@ -1,7 +1,7 @@
 // Points at which a test may hold a thread.
 
 /// Where a run has come.
-#[derive(Clone, Copy, Debug, PartialEq, Eq)]
+#[derive(Clone, Copy, PartialEq, Eq)]
 pub enum Point {
     /// A worker begins its part, counted from 0.
     WorkerStarts { part: u16 },
@@ -19,7 +19,7 @@ pub trait Gate: Sync {
 }
 
 /// The gate of the program, which does nothing.
-#[derive(Clone, Copy, Debug)]
+#[derive(Clone, Copy)]
 pub struct NoGate;
 
 impl Gate for NoGate {

@@ -8,8 +8,6 @@ mod memory_sink;
 mod memory_source;
 mod sink;
 mod source;
-#[cfg(test)]
-mod tests;
 
 pub use adapters::{ReaderSource, WriterSink};
 pub use gate::{Gate, NoGate, Point};

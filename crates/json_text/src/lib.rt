@@ -8,8 +8,6 @@ mod laws;
 mod members;
 mod pieces;
 mod replies;
-#[cfg(test)]
-mod tests;
 mod tuples;
 mod update;
 mod writes;

@@ -10,7 +10,7 @@ use tuple_values::{Bytes, Memory, Text, Tuples};
 
 /// What a result set ends with: the text of a fault, where there is one, and how long the
 /// request took, in milliseconds.
-#[derive(Debug, Drop)]
+#[derive(Drop)]
 pub struct EndTuple {
     pub exception: Option<Text>,
     pub millis: u64,

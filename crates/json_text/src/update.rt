@@ -12,7 +12,7 @@ use tuple_values::Writes;
 
 /// What an update asks for: writes in the order in which they are carried out, and whether they
 /// are committed.
-#[derive(Debug, Drop)]
+#[derive(Drop)]
 pub struct Update {
     pub writes: Writes,
     pub commit: bool,

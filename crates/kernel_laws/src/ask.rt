@@ -2,7 +2,7 @@
 use tuple_values::Tuple;
 
 /// What a kernel answers when it is asked.
-#[derive(Debug, Drop)]
+#[derive(Drop)]
 pub enum Ask {
     /// The next tuple of its output.
     Emit(Tuple),

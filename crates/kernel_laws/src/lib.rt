@@ -4,8 +4,6 @@
 mod ask;
 mod kernel;
 mod one_input;
-#[cfg(test)]
-mod tests;
 
 pub use ask::Ask;
 pub use kernel::Kernel;

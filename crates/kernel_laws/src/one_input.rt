@@ -7,7 +7,7 @@ use tuple_values::{Memory, Tuple};
 
 /// What a kernel of one input keeps of it beside its own tuples: whether it has ended, and whether
 /// memory was wanting.
-#[derive(Debug, Drop)]
+#[derive(Drop)]
 pub struct OneInput {
     ended: bool,
     failed: bool,

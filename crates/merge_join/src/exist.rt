@@ -20,7 +20,7 @@ use tuple_values::{Memory, Tuple};
 
 /// Gives the left tuples that have an equal in the right input by pairs of fields, or those that
 /// have none. Both inputs are in the order of their fields.
-#[derive(Debug, Drop)]
+#[derive(Drop)]
 pub struct ExistKernel {
     keep: bool,
     terms: JoinTerms,

@@ -24,7 +24,7 @@ use tuple_values::{Memory, TryCopy, Tuple};
 /// Gives a left tuple over a right one for each two that are equal by pairs of fields, and a left
 /// tuple without an equal as it is where the join is outer. Both inputs are in the order of their
 /// fields. It holds the right tuples of one key at a time.
-#[derive(Debug, Drop)]
+#[derive(Drop)]
 pub struct JoinKernel {
     alloc: Global,
     outer: bool,

@@ -5,8 +5,6 @@ mod exist;
 mod join;
 mod side;
 mod term;
-#[cfg(test)]
-mod tests;
 
 pub use exist::ExistKernel;
 pub use join::JoinKernel;

@@ -6,7 +6,7 @@ use kernel_laws::Ask;
 use tuple_values::Tuple;
 
 /// What is known of an input: its next tuple, where that came, and whether the input has ended.
-#[derive(Debug, Drop)]
+#[derive(Drop)]
 pub(crate) struct Side {
     pub held: Option<Tuple>,
     pub ended: bool,

@@ -8,7 +8,7 @@ use std::cmp::Ordering;
 use tuple_values::{Memory, Sequence, Text, TryCopy, Tuple, compare};
 
 /// A field of the left tuple and one of the right, and whether the greatest comes first.
-#[derive(Debug, Drop)]
+#[derive(Drop)]
 pub(crate) struct JoinTerm {
     pub left: Text,
     pub right: Text,

@@ -4,7 +4,7 @@ use topic_book::{Binding, TopicKey};
 use tuple_values::{Sequence, Text, Versions};
 
 /// One event of an actor, which touches one cell at most.
-#[derive(Debug, Drop)]
+#[derive(Drop)]
 pub enum Event {
     /// A step of puts, deletes and commits is appended to a shard.
     Write {

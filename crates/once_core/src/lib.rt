@@ -14,8 +14,6 @@ mod replay;
 mod seen;
 mod step;
 mod store;
-#[cfg(test)]
-mod tests;
 mod turn;
 mod world;
 mod writes;

@@ -10,7 +10,7 @@ use tuple_values::{Memory, Names};
 
 /// The world after the events before the first one that isn't allowed, and that one's place,
 /// counted from 0.
-#[derive(Debug, Drop)]
+#[derive(Drop)]
 pub struct Replay {
     pub world: World,
     pub refused_at: Option<u64>,

@@ -7,14 +7,14 @@ use tuple_values::Sequence;
 pub type ShardHistories = Sequence<Step>;
 
 /// All histories: those of the shards, and the book's.
-#[derive(Debug, Drop)]
+#[derive(Drop)]
 pub struct Histories {
     pub shards: ShardHistories,
     pub book: BookEntries,
 }
 
 /// An actor knows the first `upto` entries of a cell. The book's cell is the one after the shards'.
-#[derive(Clone, Copy, Debug, PartialEq, Eq)]
+#[derive(Clone, Copy, PartialEq, Eq)]
 pub struct Known {
     pub actor: u64,
     pub cell: u32,
@@ -25,7 +25,7 @@ pub struct Known {
 pub type KnownList = Sequence<Known>;
 
 /// All histories, and what each actor knows of them.
-#[derive(Debug, Drop)]
+#[derive(Drop)]
 pub struct World {
     pub histories: Histories,
     pub known: KnownList,

@@ -5,8 +5,6 @@ mod merge;
 mod merge_state;
 mod sort;
 mod sorted;
-#[cfg(test)]
-mod tests;
 mod top;
 mod top_state;
 

@@ -5,14 +5,14 @@ use sort_spec::SortSpec;
 use tuple_values::Tuple;
 
 /// What is known of one input.
-#[derive(Debug, Drop)]
+#[derive(Drop)]
 pub(crate) struct Slot {
     pub held: Option<Tuple>,
     pub ended: bool,
 }
 
 /// Merges inputs, each in the order of one sort, into that order.
-#[derive(Debug, Drop)]
+#[derive(Drop)]
 pub struct MergeKernel {
     pub(crate) on: SortSpec,
     pub(crate) slots: Vec<Slot>,

@@ -12,7 +12,7 @@ use std::mem;
 use tuple_values::{Memory, TryCopy, Tuple};
 
 /// Takes all tuples of its input, and gives them in order.
-#[derive(Debug, Drop)]
+#[derive(Drop)]
 pub struct SortKernel {
     alloc: Global,
     by: SortSpec,

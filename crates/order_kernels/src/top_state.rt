@@ -7,7 +7,7 @@ use std::alloc::Global;
 use tuple_values::Tuple;
 
 /// Gives the first `n` tuples of its input by a sort. It keeps at most twice as many and one.
-#[derive(Debug, Drop)]
+#[derive(Drop)]
 pub struct TopKernel {
     pub(crate) alloc: Global,
     pub(crate) n: u64,

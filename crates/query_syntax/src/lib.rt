@@ -11,10 +11,6 @@ mod place;
 mod query;
 mod reader;
 mod reading;
-#[cfg(test)]
-mod reading_tests;
-#[cfg(test)]
-mod tests;
 
 pub use fault::QueryFault;
 pub use query::{Clause, Clauses, Query, Role, Test, What};

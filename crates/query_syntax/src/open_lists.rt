@@ -7,7 +7,7 @@ use std::marker::Model;
 use tuple_values::{Memory, Text};
 
 /// The field of the group that a list stands in, if any.
-#[derive(Debug, Drop)]
+#[derive(Drop)]
 pub enum Outside {
     /// The same as inside the list.
     Same,
@@ -17,7 +17,7 @@ pub enum Outside {
 
 /// An open list as far as it was read when another one opened in it, and of that one the role and
 /// what field is outside of it.
-#[derive(Debug, Drop)]
+#[derive(Drop)]
 pub struct OpenList {
     pub role: Role,
     pub clauses: Clauses,
@@ -25,7 +25,7 @@ pub struct OpenList {
 }
 
 /// Open lists. A contract sees their list, the last opened first.
-#[derive(Debug, Drop)]
+#[derive(Drop)]
 pub struct OpenLists {
     lists: Vec<OpenList>,
 }

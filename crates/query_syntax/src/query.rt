@@ -10,7 +10,7 @@ use std::marker::Model;
 use tuple_values::{Memory, Text, TryCopy};
 
 /// What a clause means for the list that holds it.
-#[derive(Clone, Copy, Debug)]
+#[derive(Clone, Copy)]
 pub enum Role {
     /// The list matches only where the clause does.
     Required,
@@ -35,7 +35,7 @@ impl Role {
 }
 
 /// What is asked of the value of a field.
-#[derive(Debug, Drop)]
+#[derive(Drop)]
 pub enum Test {
     /// The value is this text, or the number that the text is.
     Word(Text),
@@ -55,7 +55,7 @@ pub enum Test {
 
 /// What a clause asks for: every document, a field with a test, or a list of clauses.
 #[cycle(clauses)]
-#[derive(Debug, Drop)]
+#[derive(Drop)]
 pub enum What {
     Everything,
     Field { name: Text, test: Test },
@@ -64,7 +64,7 @@ pub enum What {
 
 /// A part of a query, with its role in the list that holds it.
 #[cycle(clauses)]
-#[derive(Debug, Drop)]
+#[derive(Drop)]
 pub struct Clause {
     pub role: Role,
     pub what: What,
@@ -72,13 +72,13 @@ pub struct Clause {
 
 /// Clauses in their order. A contract sees the list of their trees.
 #[cycle(clauses)]
-#[derive(Debug, Drop)]
+#[derive(Drop)]
 pub struct Clauses {
     items: Vec<Clause>,
 }
 
 /// A query, by its clauses.
-#[derive(Debug, Drop)]
+#[derive(Drop)]
 pub struct Query {
     pub clauses: Clauses,
 }

@@ -9,7 +9,7 @@ use tuple_values::{Memory, Text, Tuples};
 
 /// What an expression did at a site: the tuples that it gives, what is told of its fault, where it
 /// has one, how many tuples it read to write or to pass them on, and how many of its writes stand.
-#[derive(Debug, Drop)]
+#[derive(Drop)]
 pub struct Done {
     pub docs: Tuples,
     pub exception: Option<Text>,

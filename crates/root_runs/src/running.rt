@@ -78,7 +78,7 @@ pub fn run_deed<T: Turns, R: Threads + Sync, G: Gate>(
 /// What an expression did, and its looks and own steps, each in order. `read` is how many tuples it
 /// read to write or to pass them on; 0 with an exception, and for other roots than update and
 /// commit.
-#[derive(Debug, Drop)]
+#[derive(Drop)]
 pub struct RootRun {
     pub docs: Tuples,
     pub exception: Option<Text>,

@@ -12,7 +12,7 @@ use std::alloc::Global;
 use tuple_values::{Memory, Tuple};
 
 /// Passes on the tuples of its input that meet a condition.
-#[derive(Debug, Drop)]
+#[derive(Drop)]
 pub struct HavingKernel {
     alloc: Global,
     condition: Condition,

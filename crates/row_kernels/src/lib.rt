@@ -6,8 +6,6 @@ mod joining;
 mod select;
 mod selecting;
 mod testing;
-#[cfg(test)]
-mod tests;
 
 pub use having::HavingKernel;
 pub use select::SelectKernel;

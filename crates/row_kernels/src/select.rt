@@ -11,7 +11,7 @@ use std::alloc::Global;
 use tuple_values::{Memory, TryCopy, Tuple};
 
 /// Makes one tuple of each tuple of its input.
-#[derive(Debug, Drop)]
+#[derive(Drop)]
 pub struct SelectKernel {
     alloc: Global,
     items: Items,

@@ -14,6 +14,5 @@ pub mod CloseLemmas
 pub mod AppendLemmas
 pub mod StartLemmas
 pub mod VisitLemmas
-pub mod TestLemmas
 pub mod EndLemmas
 pub mod FitLemmas

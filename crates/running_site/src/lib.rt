@@ -10,8 +10,6 @@ mod pass;
 mod record;
 mod sealing;
 mod site;
-#[cfg(test)]
-mod tests;
 mod visit;
 mod visiting;
 mod writing;

@@ -8,7 +8,7 @@ use std::sync::Arc;
 use tuple_values::Memory;
 
 /// Slots that all who hold them share. A contract sees the list of them.
-#[derive(Debug, Drop)]
+#[derive(Drop)]
 pub(crate) struct Chunk {
     slots: Arc<Vec<Slot>>,
 }

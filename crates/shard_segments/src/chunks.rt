@@ -17,7 +17,7 @@ const LIMIT: u64 = 0x8000_0000_0000_0000;
 
 /// Slots in their order: those of whole chunks, which don't change any more and are shared, and
 /// behind them the open ones. A contract sees the list of them and for how many more there is room.
-#[derive(Debug, Drop)]
+#[derive(Drop)]
 pub struct Chunks {
     whole: Vec<Chunk>,
     open: Vec<Slot>,

@@ -5,8 +5,6 @@ mod chunk;
 mod chunks;
 mod scanning;
 mod slot;
-#[cfg(test)]
-mod tests;
 
 pub use chunks::Chunks;
 pub use scanning::{DocTest, scan};

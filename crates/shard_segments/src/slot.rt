@@ -7,7 +7,7 @@ use std::sync::Arc;
 use tuple_values::{Memory, Tuple};
 
 /// A document that all who hold it share. A contract sees the document.
-#[derive(Debug, Drop)]
+#[derive(Drop)]
 pub struct Document {
     tuple: Arc<Tuple>,
 }
@@ -50,7 +50,7 @@ impl Document {
 }
 
 /// A write in its version: the document that it left under its id, and none where it deleted it.
-#[derive(Debug, Drop)]
+#[derive(Drop)]
 pub struct Slot {
     pub version: u64,
     pub document: Option<Document>,

@@ -3,7 +3,7 @@ use crate::Snapshot;
 use tuple_values::{Sequence, Text};
 
 /// A shard of a collection as it was read.
-#[derive(Debug, Drop)]
+#[derive(Drop)]
 pub struct CutPart {
     pub collection: Text,
     pub shard: u16,
@@ -14,7 +14,7 @@ pub struct CutPart {
 pub type Cut = Sequence<CutPart>;
 
 /// The record of a look at a cell: how many of its entries were seen.
-#[derive(Clone, Copy, Debug, PartialEq, Eq, Drop)]
+#[derive(Clone, Copy, PartialEq, Eq, Drop)]
 pub struct CutMark {
     pub cell: u32,
     pub upto: u64,
@@ -24,7 +24,7 @@ pub struct CutMark {
 pub type CutMarks = Sequence<CutMark>;
 
 /// The record of an append to a cell: the place of its first entry and how many there are.
-#[derive(Clone, Copy, Debug, PartialEq, Eq, Drop)]
+#[derive(Clone, Copy, PartialEq, Eq, Drop)]
 pub struct OwnMark {
     pub cell: u32,
     pub from: u64,
@@ -35,7 +35,7 @@ pub struct OwnMark {
 pub type OwnMarks = Sequence<OwnMark>;
 
 /// Looks and appends of one writer.
-#[derive(Debug, Drop)]
+#[derive(Drop)]
 pub struct Record {
     pub marks: CutMarks,
     pub own: OwnMarks,

@@ -6,7 +6,7 @@ use tuple_values::{Memory, Sequence, Text, TryCopy, Tuple};
 
 /// What an entry does: a document is put under its id, an id is deleted, a document comes from a
 /// version of another collection, or the writes before are committed.
-#[derive(Debug, Drop)]
+#[derive(Drop)]
 pub enum Kind {
     Put(Tuple),
     Del(Text),
@@ -19,7 +19,7 @@ pub enum Kind {
 }
 
 /// An entry of a shard's history, with the number of its writer.
-#[derive(Debug, Drop)]
+#[derive(Drop)]
 pub struct Entry {
     pub by: u64,
     pub kind: Kind,

@@ -13,8 +13,6 @@ mod reading;
 mod shard;
 mod size;
 mod snapshot;
-#[cfg(test)]
-mod tests;
 mod tree;
 
 pub use cut::{Cut, CutMark, CutMarks, CutPart, OwnMark, OwnMarks, Record};

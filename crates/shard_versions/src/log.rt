@@ -17,14 +17,14 @@ use std::marker::Model;
 use tuple_values::{Memory, Text, TryCopy, Tuple};
 
 /// Where a delivery comes from.
-#[derive(Debug, Drop)]
+#[derive(Drop)]
 pub(crate) struct Origin {
     pub(crate) src: Text,
     pub(crate) version: u64,
 }
 
 /// What an entry does, whose document stands in the slot of its write.
-#[derive(Debug, Drop)]
+#[derive(Drop)]
 pub(crate) enum Act {
     Puts,
     Deletes(Box<Text>),
@@ -33,7 +33,7 @@ pub(crate) enum Act {
 }
 
 /// What is kept of an entry: its writer, how many writes stand before it, and what it does.
-#[derive(Debug, Drop)]
+#[derive(Drop)]
 struct Note {
     by: u64,
     at: usize,
@@ -41,7 +41,7 @@ struct Note {
 }
 
 /// An entry that is made ready, with the slot of its write.
-#[derive(Debug, Drop)]
+#[derive(Drop)]
 pub(crate) struct Made {
     pub(crate) by: u64,
     pub(crate) act: Act,
@@ -49,7 +49,7 @@ pub(crate) struct Made {
 }
 
 /// A history, each document of which is kept once, with its version put in.
-#[derive(Debug, Drop)]
+#[derive(Drop)]
 pub(crate) struct Log {
     notes: Vec<Note>,
     chunks: Chunks,

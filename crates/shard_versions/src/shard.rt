@@ -25,7 +25,7 @@ use tuple_values::{Memory, Text};
 /// A shard with its whole history. What it keeps beside the entries, it keeps by their places,
 /// each counted from 1, with 0 for none: of each write the next one of its id, of each delivery
 /// the greatest version so far of its source and id, and where the last Mark stands.
-#[derive(Debug, Drop)]
+#[derive(Drop)]
 pub struct ShardState {
     log: Log,
     nexts: Vec<usize>,

@@ -10,7 +10,7 @@ use tuple_values::{Memory, Tuple};
 
 /// A shard as it was read: its top, the number of entries seen, the slots of its writes up to the
 /// top, and the places of the current ones among them.
-#[derive(Debug, Drop)]
+#[derive(Drop)]
 pub struct Snapshot {
     pub(crate) reached: u64,
     pub(crate) seen: u64,

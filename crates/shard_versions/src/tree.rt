@@ -6,7 +6,7 @@ use std::alloc::{AllocError, Global};
 use std::collections::HashMap;
 
 /// A place, counted from 1, and the numbers of the nodes below on both sides, with 0 for none.
-#[derive(Clone, Copy, Debug, Drop)]
+#[derive(Clone, Copy, Drop)]
 pub(crate) struct Node {
     place: usize,
     left: usize,
@@ -14,7 +14,7 @@ pub(crate) struct Node {
 }
 
 /// The nodes, which have the numbers from 1 on, and the number of the first one of each tag.
-#[derive(Debug, Drop)]
+#[derive(Drop)]
 pub(crate) struct Tree {
     nodes: Vec<Node>,
     roots: HashMap<u64, usize>,

@@ -5,7 +5,7 @@ ghost use Rattle.site_cells.specs.Refusals.{refusal_of};
 use topic_book::{Binding, BookFault};
 
 /// Why there is no room for what was to be appended to a cell. The cell is then as it was.
-#[derive(Debug, Drop)]
+#[derive(Drop)]
 pub enum CellRefusal {
     /// The counted bytes of the shard with the step's would pass its limit.
     ShardFull,

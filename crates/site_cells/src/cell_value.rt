@@ -3,7 +3,7 @@ use shard_versions::ShardState;
 use topic_book::BookState;
 
 /// A shard, or the book.
-#[derive(Debug, Drop)]
+#[derive(Drop)]
 pub enum CellValue {
     Shard(ShardState),
     Book(BookState),

@@ -3,7 +3,7 @@ use shard_versions::Step;
 use topic_book::BookEntry;
 
 /// A step of a shard, or an entry of the book, under the writer's number.
-#[derive(Debug, Drop)]
+#[derive(Drop)]
 pub enum Sealing {
     Shard(Step),
     Book(BookEntry),

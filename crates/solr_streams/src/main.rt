@@ -1,31 +1,9 @@
 //! Streaming expressions over collections of flat documents: the program.
 #![tactic(auto)]
 
-#[cfg(test)]
-mod apart_tests;
-#[cfg(test)]
-mod daemon_tests;
-mod ending;
-mod eval;
-mod input;
-mod run;
-#[cfg(test)]
-mod running;
-#[cfg(test)]
-mod samples;
-mod script;
-#[cfg(test)]
-mod script_tests;
-#[cfg(test)]
-mod tests;
-#[cfg(test)]
-mod topic_tests;
-mod words;
-
 use io_edge::{NoGate, ReaderSource, WriterSink};
-use run::run_words;
 use std::process::ExitCode;
-use words::read_words;
+use stream_commands::{read_words, run_words};
 
 fn main(rt: HostRuntime) -> ExitCode {
     let mut errors = WriterSink::new(rt.stderr());

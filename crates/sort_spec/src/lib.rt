@@ -12,8 +12,6 @@ mod rows;
 mod scan;
 mod sorting;
 mod term;
-#[cfg(test)]
-mod tests;
 
 pub use comparing::orders_are_weak;
 pub use fault::SortFault;

@@ -3,7 +3,7 @@ use std::alloc::Global;
 use tuple_values::{Memory, Sequence, Text, TryCopy};
 
 /// A field of the left tuple, and the field of the right one that has to have its value.
-#[derive(Debug, Drop)]
+#[derive(Drop)]
 pub struct OnPair {
     pub left: Text,
     pub right: Text,

@@ -7,7 +7,7 @@ ghost use Rattle.sort_spec.specs.Reading.{begins_with_d, begins_with_equals};
 ghost use Rattle.sort_spec.specs.Scan.{is_of, same_letter};
 
 /// A kind of bytes.
-#[derive(Clone, Copy, Debug)]
+#[derive(Clone, Copy)]
 pub enum Kind {
     /// Space, tab, line feed, carriage return.
     Blank,

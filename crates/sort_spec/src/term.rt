@@ -8,7 +8,7 @@ use std::marker::Model;
 use tuple_values::{FieldList, Memory, Sequence, Text, TryCopy};
 
 /// A field by which tuples are sorted, and whether the greatest comes first.
-#[derive(Debug, Drop)]
+#[derive(Drop)]
 pub struct SortTerm {
     pub field: Text,
     pub descending: bool,
@@ -26,7 +26,7 @@ impl TryCopy for SortTerm {
 
 /// A sort: terms, of which the first that tells two tuples apart decides. A contract sees the list
 /// of the terms. The sort of no term, which no text says, tells no tuples apart.
-#[derive(Debug, Drop)]
+#[derive(Drop)]
 pub struct SortSpec {
     terms: Sequence<SortTerm>,
 }

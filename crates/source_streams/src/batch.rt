@@ -14,7 +14,7 @@ use tuple_values::{FieldList, Memory, Sequence, Text, TryCopy, Tuple, Versions};
 
 /// A document that a topic gives: the shard that it is read from, its version there, and its
 /// fields.
-#[derive(Debug, Drop)]
+#[derive(Drop)]
 pub struct TopicItem {
     pub shard: u16,
     pub version: u64,

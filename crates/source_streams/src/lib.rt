@@ -5,8 +5,6 @@ mod batch;
 mod part;
 mod scanned;
 mod search;
-#[cfg(test)]
-mod tests;
 mod tuple_once;
 mod wanted;
 

@@ -9,7 +9,7 @@ ghost use Rattle.source_streams.specs.Parts.{is_of_part, keys_of};
 use tuple_values::{FieldList, Tuple, Value};
 
 /// One of `of` parts into which the tuples of a stream fall by their keys, counted from 0.
-#[derive(Clone, Copy, Debug, PartialEq, Eq)]
+#[derive(Clone, Copy, PartialEq, Eq)]
 pub struct Part {
     pub index: u16,
     pub of: u16,

@@ -21,7 +21,7 @@ use std::thread::Threads;
 use tuple_values::{FieldList, Memory, Text, TryCopy, Tuple};
 
 /// The tuples of a search that are still to come. A contract sees the list of them.
-#[derive(Debug, Drop)]
+#[derive(Drop)]
 pub struct SearchCursor {
     rest: VecDeque<Tuple>,
 }

@@ -9,7 +9,7 @@ use std::marker::Model;
 use tuple_values::{Memory, Tuple};
 
 /// One tuple, and then the end. A contract sees the list of what is still to come.
-#[derive(Debug, Drop)]
+#[derive(Drop)]
 pub struct TupleOnce {
     rest: Option<Tuple>,
 }

@@ -12,7 +12,7 @@ use row_kernels::{HavingKernel, SelectKernel};
 use tuple_values::{Memory, Tuple};
 
 /// Any of the kernels. It keeps their law.
-#[derive(Debug, Drop)]
+#[derive(Drop)]
 pub(crate) enum AnyKernel {
     Select(SelectKernel),
     Having(HavingKernel),

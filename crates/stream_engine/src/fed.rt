@@ -7,7 +7,7 @@ use std::marker::Model;
 use tuple_values::{Tuple, Tuples};
 
 /// The tuples of a list that are still to come. A contract sees the list of them.
-#[derive(Debug, Drop)]
+#[derive(Drop)]
 pub(crate) struct Fed {
     rest: VecDeque<Tuple>,
 }

@@ -17,14 +17,14 @@ use tuple_values::{Memory, Tuple, Tuples};
 /// A source, or a kernel over the streams of its inputs. A contract sees the list that is still to
 /// come, how deep the stream nests, and whether memory was wanting.
 #[cycle(streams)]
-#[derive(Debug, Drop)]
+#[derive(Drop)]
 pub struct Stream {
     node: Node,
     failed: bool,
 }
 
 #[cycle(streams)]
-#[derive(Debug, Drop)]
+#[derive(Drop)]
 enum Node {
     Search(SearchCursor),
     Once(TupleOnce),

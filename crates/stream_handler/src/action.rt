@@ -12,7 +12,7 @@ use std::alloc::Global;
 use tuple_values::{Memory, Text, Tuple, Tuples, Value};
 
 /// What is made of one daemon.
-#[derive(Clone, Copy, Debug, PartialEq, Eq)]
+#[derive(Clone, Copy, PartialEq, Eq)]
 pub enum Change {
     Stop,
     Start,

@@ -3,7 +3,7 @@ use crate::{Exchange, Exchanges};
 use shard_versions::Record;
 
 /// Why a connection is served no further.
-#[derive(Clone, Copy, Debug, PartialEq, Eq)]
+#[derive(Clone, Copy, PartialEq, Eq)]
 pub enum End {
     /// The source ended between messages.
     Ended,
@@ -22,7 +22,7 @@ pub enum End {
 }
 
 /// How one message was served.
-#[derive(Debug, Drop)]
+#[derive(Drop)]
 pub enum OneEnd {
     /// A request was answered, and the connection stays.
     Served(Exchange),
@@ -37,7 +37,7 @@ pub enum OneEnd {
 }
 
 /// What a connection did.
-#[derive(Debug, Drop)]
+#[derive(Drop)]
 pub struct SessionEnd {
     /// One for each request that was answered, in their order; the last reply may be written in
     /// part where the sink failed.

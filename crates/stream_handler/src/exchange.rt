@@ -15,7 +15,7 @@ use tuple_values::{Bytes, Memory, Sequence};
 
 /// What one request did: its looks and its own steps, each in order, and how many milliseconds it
 /// took.
-#[derive(Debug, Drop)]
+#[derive(Drop)]
 pub struct Exchange {
     pub marks: CutMarks,
     pub own: OwnMarks,
@@ -26,7 +26,7 @@ pub struct Exchange {
 pub type Exchanges = Sequence<Exchange>;
 
 /// A response that is still to be written, and what its request did.
-#[derive(Debug, Drop)]
+#[derive(Drop)]
 pub struct Answered {
     pub reply: Bytes,
     pub exchange: Exchange,

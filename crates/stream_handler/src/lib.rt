@@ -13,8 +13,6 @@ mod request;
 mod response;
 mod serve;
 mod starting;
-#[cfg(test)]
-mod tests;
 mod update;
 mod waiting;
 

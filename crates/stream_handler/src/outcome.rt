@@ -8,7 +8,7 @@ use std::alloc::Global;
 use tuple_values::{Bytes, Memory, Text, Tuples};
 
 /// What a request is answered, before the time is known.
-#[derive(Debug, Drop)]
+#[derive(Drop)]
 pub enum Outcome {
     /// An update was carried out.
     Indexed,

@@ -15,7 +15,7 @@ use tuple_values::{Memory, Text, TryCopy};
 
 /// A daemon that is to be put on the board: its id, how long it rests after a run in milliseconds,
 /// and whether it ends after a run that reads nothing.
-#[derive(Debug, Drop)]
+#[derive(Drop)]
 pub struct NewDaemon {
     pub id: Text,
     pub interval: u64,

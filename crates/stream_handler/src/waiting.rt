@@ -12,7 +12,7 @@ use std::alloc::Global;
 use tuple_values::Names;
 
 /// Where one answer of a stream of requests leads.
-#[derive(Debug, Drop)]
+#[derive(Drop)]
 pub(crate) enum Turn {
     /// A request is whole.
     Whole(Request),

@@ -11,8 +11,6 @@ mod plain;
 mod routing;
 mod send;
 mod step;
-#[cfg(test)]
-mod tests;
 mod topics;
 mod turns;
 mod writes;

@@ -37,7 +37,7 @@ use topic_book::{Binding, BookEntry, BookFault, BookState, TopicKey};
 use tuple_values::{FieldList, Memory, Names, Text, Versions, Writes};
 
 /// Histories in memory that one writer alone looks at and writes to. Its number is 1.
-#[derive(Debug, Drop)]
+#[derive(Drop)]
 pub struct PlainSite {
     alloc: Global,
     names: Names,

@@ -18,7 +18,7 @@ const TOPICS: u64 = 1000;
 
 /// The book with its whole history. What it keeps beside the entries are the topics, in the order
 /// in which they were bound.
-#[derive(Debug, Drop)]
+#[derive(Drop)]
 pub struct BookState {
     alloc: Global,
     entries: Vec<BookEntry>,

@@ -5,8 +5,6 @@ mod alike;
 mod book;
 mod fault;
 mod kept;
-#[cfg(test)]
-mod tests;
 mod topic;
 mod topics;
 

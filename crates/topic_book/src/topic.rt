@@ -3,7 +3,7 @@ use std::alloc::Global;
 use tuple_values::{FieldList, Memory, Sequence, Text, TryCopy, Versions};
 
 /// What a topic is known by: the collection of its checkpoints and its id.
-#[derive(Debug, Drop)]
+#[derive(Drop)]
 pub struct TopicKey {
     pub checkpoints: Text,
     pub id: Text,
@@ -22,7 +22,7 @@ pub struct Binding {
 
 /// An entry of the book, with the number of its writer: a topic is bound, or the versions up to
 /// which it was delivered are stored.
-#[derive(Debug, Drop)]
+#[derive(Drop)]
 pub enum BookEntry {
     Bind {
         by: u64,

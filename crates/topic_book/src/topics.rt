@@ -9,7 +9,7 @@ use std::mem;
 use tuple_values::Versions;
 
 /// A topic, what it is bound to, and up to where it was delivered.
-#[derive(Debug, Drop)]
+#[derive(Drop)]
 pub(crate) struct Topic {
     pub(crate) key: TopicKey,
     pub(crate) binding: Binding,

@@ -9,8 +9,6 @@ mod memory;
 mod names;
 mod sequence;
 mod sizes;
-#[cfg(test)]
-mod tests;
 mod text;
 mod try_copy;
 mod tuple;

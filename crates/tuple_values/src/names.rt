@@ -27,7 +27,7 @@ impl Sequence<Text> {
 }
 
 /// A collection with its number of shards.
-#[derive(Debug, Drop)]
+#[derive(Drop)]
 pub struct NameShards {
     pub name: Text,
     pub shards: u16,

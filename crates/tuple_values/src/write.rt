@@ -3,7 +3,7 @@ use crate::{Memory, Sequence, Text, TryCopy, Tuple};
 use std::alloc::Global;
 
 /// One write of an update: a document to keep under its id, or the id of one to take away.
-#[derive(Debug, Drop)]
+#[derive(Drop)]
 pub enum Write {
     Put(Tuple),
     Del(Text),

@@ -12,4 +12,3 @@ pub mod GatherLemmas
 pub mod CloseLemmas
 pub mod StartLemmas
 pub mod MomentLemmas
-pub mod TallyLemmas

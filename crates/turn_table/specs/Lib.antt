@@ -5,4 +5,3 @@ pub mod Steps
 pub mod Moments
 pub mod Carried
 pub mod Calls
-pub mod Tallies

@@ -8,8 +8,6 @@ mod law;
 mod pass;
 mod rule;
 mod table;
-#[cfg(test)]
-mod tests;
 mod turn;
 
 pub use cell_state::CellState;

@@ -1,0 +1,19 @@
+//! Tests of the whole program and of its handler: runs in memory, with replies worked out by hand.
+#![tactic(auto)]
+
+#[cfg(test)]
+mod of_daemons;
+#[cfg(test)]
+mod of_eval;
+#[cfg(test)]
+mod of_scripts;
+#[cfg(test)]
+mod of_stream_handler;
+#[cfg(test)]
+mod of_topics;
+#[cfg(test)]
+mod running;
+#[cfg(test)]
+mod samples;
+#[cfg(test)]
+mod workers_apart;

@@ -1,0 +1,96 @@
+// Tests of stream_handler: that a whole connection is served where there is memory, and that a
+// stream may be given to another thread.
+use crate::running::{is_joined, joined};
+use daemon_board::Board;
+use io_edge::{MemorySink, MemorySource, NoGate};
+use std::alloc::Global;
+use std::test::Fail;
+use std::thread::Threads;
+use stream_engine::Stream;
+use stream_handler::{End, SessionEnd, serve_connection};
+use stream_site::PlainSite;
+use tuple_values::{Memory, NameShards, Names, Numbers, Text};
+
+// A site with the collection `c` of two shards.
+fn site(alloc: Global) -> Result<PlainSite, Memory> {
+    let mut names = Names::new(alloc);
+    let name = Text::of(alloc, "c")?;
+    names.push(NameShards { name, shards: 2 })?;
+    PlainSite::start(alloc, names, 1_000_000)
+}
+
+// How a connection of these pieces is served at a new site, seven bytes at a time.
+fn serve<R: Threads + Sync>(
+    rt: &R,
+    alloc: Global,
+    pieces: &[&str],
+    sink: &mut MemorySink,
+) -> Result<SessionEnd, Memory> {
+    let mut source = MemorySource::new(joined(alloc, pieces)?, 7, Numbers::new(alloc));
+    let mut site = site(alloc)?;
+    let mut board = Board::empty(alloc);
+    Ok(serve_connection(alloc, rt, &mut site, &mut board, &mut source, sink, &NoGate))
+}
+
+// Whether the exchange of this number has so many looks and steps.
+fn has(served: &SessionEnd, number: usize, looks: usize, steps: usize) -> bool {
+    match served.exchanges.as_slice().get(number) {
+        Some(exchange) => exchange.marks.len() == looks && exchange.own.len() == steps,
+        None => false,
+    }
+}
+
+const UPDATE: &str = "POST /solr/c/update?commit=true HTTP/1.1\r\nContent-Length: 20\r\n\r\n\
+     [{\"id\":\"1\",\"n_i\":5}]";
+
+const SEARCH: &str = "GET /solr/c/stream?expr=search(c,q%3D%22*:*%22,fl%3D%22id%22,\
+     sort%3D%22id+asc%22) HTTP/1.0\r\n\r\n";
+
+const UPDATED: &str = "HTTP/1.1 200 OK\r\nContent-Type: application/json\r\n\
+     Content-Length: 41\r\n\r\n{\"responseHeader\":{\"status\":0,\"QTime\":0}}";
+
+const FOUND: &str = "HTTP/1.1 200 OK\r\nContent-Type: application/json\r\n\
+     Content-Length: 67\r\nConnection: close\r\n\r\n\
+     {\"result-set\":{\"docs\":[{\"id\":\"1\"},{\"EOF\":true,\"RESPONSE_TIME\":0}]}}";
+
+// Whether two requests were answered, and the second asked to close.
+fn is_closed(served: &SessionEnd) -> bool {
+    served.end == End::Closed
+        && served.exchanges.len() == 2
+        && has(served, 0, 2, 1)
+        && has(served, 1, 2, 0)
+}
+
+fn is_served<R: Threads + Sync>(rt: &R, alloc: Global) -> Result<bool, Memory> {
+    let mut sink = MemorySink::new(alloc, Numbers::new(alloc));
+    let served = serve(rt, alloc, &[UPDATE, SEARCH, UPDATE], &mut sink)?;
+    Ok(is_closed(&served) && is_joined(sink.bytes(), &[UPDATED, FOUND]))
+}
+
+#[test]
+fn a_connection_is_served_until_it_closes(rt: HostRuntime) -> Result<(), Fail> {
+    assert!(rt; is_served(&rt, rt.alloc())?);
+    Ok(())
+}
+
+fn end_of<R: Threads + Sync>(rt: &R, alloc: Global, bytes: &str) -> Result<End, Memory> {
+    let mut sink = MemorySink::new(alloc, Numbers::new(alloc));
+    let served = serve(rt, alloc, &[bytes], &mut sink)?;
+    Ok(served.end)
+}
+
+#[test]
+fn a_connection_ends_at_what_is_refused_or_cut(rt: HostRuntime) -> Result<(), Fail> {
+    let refused = end_of(&rt, rt.alloc(), "GET /solr/d/stream HTTP/1.1\r\n\r\n")?;
+    assert!(rt; refused == End::Refused { status: 404 });
+    assert!(rt; end_of(&rt, rt.alloc(), "GET /solr")? == End::Cut { held: 9 });
+    assert!(rt; end_of(&rt, rt.alloc(), "\r\n")? == End::Ended);
+    Ok(())
+}
+
+fn is_sent<T: Send>() {}
+
+#[test]
+fn a_stream_goes_to_other_threads(_rt: HostRuntime) {
+    is_sent::<Stream>();
+}

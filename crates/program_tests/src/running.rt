@@ -1,0 +1,193 @@
+// Runs in memory, and what they are compared with.
+use io_edge::{Gate, MemorySink, MemorySource, NoGate};
+use std::alloc::Global;
+use std::thread::Threads;
+use stream_commands::run_words;
+use tuple_values::{Bytes, Memory, Numbers, Text, Words};
+
+/// What a run left.
+#[derive(Drop)]
+pub(crate) struct Ran {
+    pub(crate) status: u8,
+    pub(crate) output: MemorySink,
+    pub(crate) errors: MemorySink,
+}
+
+/// Which call of input or output is to fail, counted from 0.
+#[derive(Clone, Copy)]
+pub(crate) enum Failing {
+    Nothing,
+    Input(u64),
+    Output(u64),
+}
+
+// The call of input that is to fail, and that of output.
+fn calls_of(failing: Failing) -> (Option<u64>, Option<u64>) {
+    match failing {
+        Failing::Nothing => (None, None),
+        Failing::Input(call) => (Some(call), None),
+        Failing::Output(call) => (None, Some(call)),
+    }
+}
+
+fn numbers_of(alloc: Global, call: Option<u64>) -> Result<Numbers, Memory> {
+    let mut numbers = Numbers::new(alloc);
+    if let Some(call) = call {
+        numbers.push(call)?;
+    }
+    Ok(numbers)
+}
+
+fn add_words(alloc: Global, list: &mut Words, words: &str) -> Result<(), Memory> {
+    for word in words.split_whitespace() {
+        list.push(Text::of(alloc, word)?)?;
+    }
+    Ok(())
+}
+
+fn words_of(alloc: Global, words: &str) -> Result<Words, Memory> {
+    let mut list = Words::new(alloc);
+    add_words(alloc, &mut list, words)?;
+    Ok(list)
+}
+
+/// Adds pieces, one behind another.
+pub(crate) fn add_all(bytes: &mut Bytes, pieces: &[&str]) -> Result<(), Memory> {
+    for piece in pieces {
+        bytes.extend(piece.as_bytes())?;
+    }
+    Ok(())
+}
+
+/// The bytes of these pieces, one behind another.
+pub(crate) fn joined(alloc: Global, pieces: &[&str]) -> Result<Bytes, Memory> {
+    let mut bytes = Bytes::new(alloc);
+    add_all(&mut bytes, pieces)?;
+    Ok(bytes)
+}
+
+/// Whether the bytes are these pieces, one behind another.
+pub(crate) fn is_joined(bytes: &[u8], pieces: &[&str]) -> bool {
+    let mut rest = bytes;
+    for piece in pieces {
+        let piece = piece.as_bytes();
+        if !rest.starts_with(piece) {
+            return false;
+        }
+        rest = &rest[piece.len()..];
+    }
+    rest.is_empty()
+}
+
+/// An input of these bytes, of which at most five come at once; this call of it fails.
+pub(crate) fn source(
+    alloc: Global,
+    bytes: Bytes,
+    failing: Option<u64>,
+) -> Result<MemorySource, Memory> {
+    let calls = numbers_of(alloc, failing)?;
+    Ok(MemorySource::new(bytes, 5, calls))
+}
+
+fn not_ran(alloc: Global, failing: Option<u64>) -> Result<Ran, Memory> {
+    let calls = numbers_of(alloc, failing)?;
+    Ok(Ran {
+        status: 0,
+        output: MemorySink::new(alloc, calls),
+        errors: MemorySink::new(alloc, Numbers::new(alloc)),
+    })
+}
+
+fn run<R: Threads + Sync, G: Gate>(
+    rt: &R,
+    alloc: Global,
+    words: &str,
+    input: &mut MemorySource,
+    ran: &mut Ran,
+    gate: &G,
+) -> Result<(), Memory> {
+    let words = words_of(alloc, words)?;
+    ran.status = run_words(
+        rt,
+        alloc,
+        &words,
+        input,
+        &mut ran.output,
+        &mut ran.errors,
+        gate,
+    );
+    Ok(())
+}
+
+/// What the command of these words leaves; this call of output fails.
+pub(crate) fn a_run<R: Threads + Sync, G: Gate>(
+    rt: &R,
+    alloc: Global,
+    words: &str,
+    input: &mut MemorySource,
+    failing: Option<u64>,
+    gate: &G,
+) -> Result<Ran, Memory> {
+    let mut ran = not_ran(alloc, failing)?;
+    run(rt, alloc, words, input, &mut ran, gate)?;
+    Ok(ran)
+}
+
+/// What a run is to leave: its status, the pieces of its output, and its errors.
+#[derive(Clone, Copy)]
+pub(crate) struct Wanted<'a> {
+    pub(crate) status: u8,
+    pub(crate) output: &'a [&'a str],
+    pub(crate) errors: &'a str,
+}
+
+/// Whether a run left what is wanted.
+pub(crate) fn is_so(ran: &Ran, wanted: Wanted) -> bool {
+    ran.status == wanted.status
+        && is_joined(ran.output.bytes(), wanted.output)
+        && ran.errors.bytes() == wanted.errors.as_bytes()
+}
+
+/// Whether a command leaves what is wanted of this input.
+pub(crate) fn leaves<R: Threads + Sync>(
+    rt: &R,
+    alloc: Global,
+    words: &str,
+    input: Bytes,
+    wanted: Wanted,
+) -> Result<bool, Memory> {
+    let mut input = source(alloc, input, None)?;
+    let ran = a_run(rt, alloc, words, &mut input, None, &NoGate)?;
+    Ok(is_so(&ran, wanted))
+}
+
+/// Whether a script answers these requests so.
+pub(crate) fn answers<R: Threads + Sync>(
+    rt: &R,
+    alloc: Global,
+    words: &str,
+    requests: &[&str],
+    wanted: Wanted,
+) -> Result<bool, Memory> {
+    leaves(rt, alloc, words, joined(alloc, requests)?, wanted)
+}
+
+/// Whether a command ends with this line, and no output, where this call fails.
+pub(crate) fn fails<R: Threads + Sync>(
+    rt: &R,
+    alloc: Global,
+    words: &str,
+    input: &str,
+    failing: Failing,
+    errors: &str,
+) -> Result<bool, Memory> {
+    let (reads, writes) = calls_of(failing);
+    let mut input = source(alloc, joined(alloc, &[input])?, reads)?;
+    let ran = a_run(rt, alloc, words, &mut input, writes, &NoGate)?;
+    let wanted = Wanted {
+        status: 1,
+        output: &[],
+        errors,
+    };
+    Ok(is_so(&ran, wanted))
+}

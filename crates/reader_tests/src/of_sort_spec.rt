@@ -1,0 +1,362 @@
+// Tests of sort_spec, by texts and orders worked by hand from the rules of sorts.
+use crate::making::{Plain, put};
+use sort_spec::{
+    OnPair, SortFault, SortSpec, SortTerm, read_names, read_on, read_sort, sort_lent, sort_tuples,
+};
+use std::alloc::Global;
+use std::cmp::Ordering;
+use tuple_values::{Memory, Text, TryCopy, Tuple, Tuples, Value};
+
+fn push_term(told: &mut String, term: &SortTerm) -> Result<(), Memory> {
+    told.push_str(term.field.as_str())?;
+    Ok(told.push_str(if term.descending { " desc;" } else { " asc;" })?)
+}
+
+fn push_terms(told: &mut String, sort: &SortSpec) -> Result<(), Memory> {
+    for term in sort.as_slice() {
+        push_term(told, term)?;
+    }
+    Ok(())
+}
+
+fn push_fault(alloc: Global, told: &mut String, fault: SortFault) -> Result<(), Memory> {
+    let text = fault.text(alloc)?;
+    Ok(told.push_str(text.as_str())?)
+}
+
+fn push_sort(alloc: Global, told: &mut String, text: &str) -> Result<(), Memory> {
+    match read_sort(alloc, text) {
+        Ok(sort) => push_terms(told, &sort),
+        Err(fault) => push_fault(alloc, told, fault),
+    }
+}
+
+// The words of the terms, each with a `;` behind it, or of the fault.
+fn is_sort(alloc: Global, text: &str, want: &str) -> bool {
+    let mut told = String::new(alloc);
+    push_sort(alloc, &mut told, text).is_ok() && told.as_str() == want
+}
+
+const SORTS: [(&str, &str); 23] = [
+    ("a asc", "a asc;"),
+    (" a\tDESC , b asC\r\n", "a desc;b asc;"),
+    ("asc asc", "asc asc;"),
+    ("a asc,a desc", "a asc;a desc;"),
+    ("é=( Desc", "é=( desc;"),
+    ("", "BadSort at 0"),
+    (" \n", "BadSort at 2"),
+    ("a", "BadSort at 1"),
+    ("a ", "BadSort at 2"),
+    ("a x", "BadSort at 2"),
+    ("a a", "BadSort at 3"),
+    ("a as", "BadSort at 4"),
+    ("a ad", "BadSort at 3"),
+    ("a ascx", "BadSort at 5"),
+    ("a desc,", "BadSort at 7"),
+    ("a asc, ", "BadSort at 7"),
+    (",a asc", "BadSort at 0"),
+    ("a,asc", "BadSort at 1"),
+    ("a ,asc", "BadSort at 2"),
+    ("a asc b", "BadSort at 6"),
+    ("a asc,b", "BadSort at 7"),
+    ("a asc,,b asc", "BadSort at 6"),
+    ("é asd", "BadSort at 5"),
+];
+
+#[test]
+fn a_sort_is_terms_between_commas(rt: HostRuntime) {
+    for (text, want) in &SORTS {
+        assert!(rt; is_sort(rt.alloc(), text, want), "of {text:?}");
+    }
+}
+
+fn push_pair(told: &mut String, pair: &OnPair) -> Result<(), Memory> {
+    told.push_str(pair.left.as_str())?;
+    told.push_str("=")?;
+    told.push_str(pair.right.as_str())?;
+    Ok(told.push_str(";")?)
+}
+
+fn push_pairs(told: &mut String, pairs: &[OnPair]) -> Result<(), Memory> {
+    for pair in pairs {
+        push_pair(told, pair)?;
+    }
+    Ok(())
+}
+
+fn push_on(alloc: Global, told: &mut String, text: &str) -> Result<(), Memory> {
+    match read_on(alloc, text) {
+        Ok(pairs) => push_pairs(told, pairs.as_slice()),
+        Err(fault) => push_fault(alloc, told, fault),
+    }
+}
+
+fn is_on(alloc: Global, text: &str, want: &str) -> bool {
+    let mut told = String::new(alloc);
+    push_on(alloc, &mut told, text).is_ok() && told.as_str() == want
+}
+
+const PAIRS: [(&str, &str); 15] = [
+    ("a", "a=a;"),
+    ("a=b", "a=b;"),
+    (" a=b , c,a=b", "a=b;c=c;a=b;"),
+    ("", "BadSort at 0"),
+    ("a=", "BadSort at 2"),
+    ("=a", "BadSort at 0"),
+    ("a =b", "BadSort at 2"),
+    ("a= b", "BadSort at 2"),
+    ("a=b=c", "BadSort at 3"),
+    ("a==b", "BadSort at 2"),
+    ("a b", "BadSort at 2"),
+    ("a=b c", "BadSort at 4"),
+    ("a,", "BadSort at 2"),
+    ("a=,b", "BadSort at 2"),
+    ("b=c,é=,", "BadSort at 7"),
+];
+
+#[test]
+fn a_pair_is_one_name_or_two(rt: HostRuntime) {
+    for (text, want) in &PAIRS {
+        assert!(rt; is_on(rt.alloc(), text, want), "of {text:?}");
+    }
+}
+
+fn push_list(told: &mut String, names: &[Text]) -> Result<(), Memory> {
+    for name in names {
+        told.push_str(name.as_str())?;
+        told.push_str(";")?;
+    }
+    Ok(())
+}
+
+fn push_names(alloc: Global, told: &mut String, text: &str) -> Result<(), Memory> {
+    match read_names(alloc, text) {
+        Ok(names) => push_list(told, names.as_slice()),
+        Err(fault) => push_fault(alloc, told, fault),
+    }
+}
+
+fn are_names(alloc: Global, text: &str, want: &str) -> bool {
+    let mut told = String::new(alloc);
+    push_names(alloc, &mut told, text).is_ok() && told.as_str() == want
+}
+
+const NAMES: [(&str, &str); 11] = [
+    ("a", "a;"),
+    ("b, a ,b,c,a", "b;a;c;"),
+    ("*", "*;"),
+    ("a=b", "a=b;"),
+    (" é\n", "é;"),
+    ("", "BadSort at 0"),
+    (" ", "BadSort at 1"),
+    ("a b", "BadSort at 2"),
+    ("a,", "BadSort at 2"),
+    (",a", "BadSort at 0"),
+    ("a,,b", "BadSort at 2"),
+];
+
+#[test]
+fn a_repeated_name_counts_once(rt: HostRuntime) {
+    for (text, want) in &NAMES {
+        assert!(rt; are_names(rt.alloc(), text, want), "of {text:?}");
+    }
+}
+
+// A tuple with the value under `a`.
+fn holding(alloc: Global, a: Plain) -> Result<Tuple, Memory> {
+    let mut tuple = Tuple::empty(alloc);
+    put(alloc, &mut tuple, "a", a)?;
+    Ok(tuple)
+}
+
+// A tuple with the values under `a` and `b`.
+fn tuple_of(alloc: Global, a: Plain, b: Plain) -> Result<Tuple, Memory> {
+    let mut tuple = holding(alloc, a)?;
+    put(alloc, &mut tuple, "b", b)?;
+    Ok(tuple)
+}
+
+const ORDERS: [(&str, Plain, Plain, Ordering); 9] = [
+    ("a asc", Plain::Absent, Plain::Long(-5), Ordering::Less),
+    ("a desc", Plain::Absent, Plain::Long(-5), Ordering::Greater),
+    ("a asc", Plain::Long(9), Plain::Long(10), Ordering::Less),
+    (
+        "a asc",
+        Plain::Text("9"),
+        Plain::Text("10"),
+        Ordering::Greater,
+    ),
+    ("a asc", Plain::Long(10), Plain::Text("1"), Ordering::Less),
+    ("a asc", Plain::Group, Plain::Text("z"), Ordering::Greater),
+    ("a desc", Plain::Text("b"), Plain::Text("a"), Ordering::Less),
+    ("a asc", Plain::Text("b"), Plain::Text("b"), Ordering::Equal),
+    ("c asc", Plain::Long(1), Plain::Long(2), Ordering::Equal),
+];
+
+fn compared(alloc: Global, by: &SortSpec, left: Plain, right: Plain) -> Result<Ordering, Memory> {
+    let left = holding(alloc, left)?;
+    let right = holding(alloc, right)?;
+    Ok(by.compare(&left, &right))
+}
+
+fn comes(alloc: Global, text: &str, left: Plain, right: Plain, want: Ordering) -> bool {
+    match read_sort(alloc, text) {
+        Ok(by) => compared(alloc, &by, left, right) == Ok(want),
+        Err(_) => false,
+    }
+}
+
+#[test]
+fn tuples_compare_by_the_value_of_a_field(rt: HostRuntime) {
+    for (row, (text, left, right, want)) in ORDERS.iter().enumerate() {
+        assert!(rt; comes(rt.alloc(), text, *left, *right, *want), "row {row}");
+    }
+}
+
+// How a tuple with 1 under `a` and under `b` compares.
+fn compared_to(alloc: Global, by: &SortSpec, a: i64, b: i64) -> Result<Ordering, Memory> {
+    let first = tuple_of(alloc, Plain::Long(1), Plain::Long(1))?;
+    let second = tuple_of(alloc, Plain::Long(a), Plain::Long(b))?;
+    Ok(by.compare(&first, &second))
+}
+
+fn first_difference_decides(alloc: Global) -> bool {
+    match read_sort(alloc, "a asc,b desc") {
+        Ok(by) => {
+            compared_to(alloc, &by, 1, 2) == Ok(Ordering::Greater)
+                && compared_to(alloc, &by, 2, 3) == Ok(Ordering::Less)
+        }
+        Err(_) => false,
+    }
+}
+
+#[test]
+fn the_first_term_that_tells_a_difference_decides(rt: HostRuntime) {
+    assert!(rt; first_difference_decides(rt.alloc()));
+}
+
+// The text under `b`.
+fn mark_of(tuple: &Tuple) -> &str {
+    match tuple.get("b") {
+        Some(Value::Text(text)) => text.as_str(),
+        _ => "",
+    }
+}
+
+const TIED: [(i64, &str); 5] = [(1, "x"), (2, "y"), (1, "z"), (2, "w"), (3, "v")];
+
+fn push_tied(alloc: Global, tuples: &mut Tuples) -> Result<(), Memory> {
+    for (n, mark) in &TIED {
+        tuples.push(tuple_of(alloc, Plain::Long(*n), Plain::Text(mark))?)?;
+    }
+    Ok(())
+}
+
+// Tuples of which the first and the third tie, and the second and the fourth.
+fn tied(alloc: Global) -> Result<Tuples, Memory> {
+    let mut tuples = Tuples::empty(alloc);
+    push_tied(alloc, &mut tuples)?;
+    Ok(tuples)
+}
+
+// Whether the marks are these, with a space between each and the next.
+fn are_marked(tuples: &[&Tuple], want: &str) -> bool {
+    let mut marks = want.split(' ');
+    for tuple in tuples {
+        if marks.next() != Some(mark_of(tuple)) {
+            return false;
+        }
+    }
+    marks.next().is_none()
+}
+
+fn lent<'a>(alloc: Global, tuples: &'a [Tuple]) -> Result<Vec<&'a Tuple>, Memory> {
+    let mut lent = Vec::new(alloc);
+    for tuple in tuples {
+        lent.push(tuple)?;
+    }
+    Ok(lent)
+}
+
+fn lent_keep_their_order(alloc: Global, by: &SortSpec) -> Result<bool, Memory> {
+    let tuples = tied(alloc)?.into_vec();
+    let sorted = sort_lent(lent(alloc, &tuples)?, by)?;
+    Ok(are_marked(&sorted, "v y w x z"))
+}
+
+fn keep_their_order(alloc: Global, by: &SortSpec) -> Result<bool, Memory> {
+    let sorted = sort_tuples(tied(alloc)?, by)?.into_vec();
+    Ok(are_marked(&lent(alloc, &sorted)?, "v y w x z"))
+}
+
+fn ties_are_kept(alloc: Global) -> bool {
+    match read_sort(alloc, "a desc") {
+        Ok(by) => {
+            lent_keep_their_order(alloc, &by) == Ok(true)
+                && keep_their_order(alloc, &by) == Ok(true)
+        }
+        Err(_) => false,
+    }
+}
+
+#[test]
+fn ties_keep_their_order(rt: HostRuntime) {
+    assert!(rt; ties_are_kept(rt.alloc()));
+}
+
+fn has_text(alloc: Global, fault: SortFault, want: &str) -> bool {
+    match fault.text(alloc) {
+        Ok(text) => text.as_str() == want,
+        Err(_) => false,
+    }
+}
+
+#[test]
+fn a_fault_is_written_with_its_place(rt: HostRuntime) {
+    assert!(rt; has_text(rt.alloc(), SortFault::BadSort { at: 12 }, "BadSort at 12"));
+    assert!(rt; has_text(rt.alloc(), SortFault::OutOfMemory, "out of memory"));
+}
+
+// A sort by `a`, from the greatest on.
+fn by_a(alloc: Global) -> Result<SortSpec, Memory> {
+    let field = Text::of(alloc, "a")?;
+    let mut by = SortSpec::new(alloc);
+    by.push(SortTerm {
+        field,
+        descending: true,
+    })?;
+    by.copy(alloc)
+}
+
+fn begins(alloc: Global, by: &SortSpec, text: &str) -> bool {
+    match read_sort(alloc, text) {
+        Ok(longer) => by.is_prefix_of(&longer),
+        Err(_) => false,
+    }
+}
+
+fn is_no_front(alloc: Global, by: &SortSpec, text: &str) -> bool {
+    match read_sort(alloc, text) {
+        Ok(longer) => !longer.is_prefix_of(by),
+        Err(_) => false,
+    }
+}
+
+fn fields(alloc: Global, text: &str) -> Result<usize, SortFault> {
+    let by = read_sort(alloc, text)?;
+    Ok(by.fields(alloc)?.len())
+}
+
+fn is_front(alloc: Global) -> Result<bool, Memory> {
+    let by = by_a(alloc)?;
+    Ok(
+        begins(alloc, &by, "a desc,b asc")
+            && !begins(alloc, &by, "a asc,b asc")
+            && is_no_front(alloc, &by, "a desc,b asc"),
+    )
+}
+
+#[test]
+fn a_sort_is_made_of_terms(rt: HostRuntime) {
+    assert!(rt; is_front(rt.alloc()) == Ok(true) && fields(rt.alloc(), "a desc,b asc") == Ok(2));
+}

@@ -1,0 +1,153 @@
+-- What `eval` has written, by what the bytes mean.
+use Rattle.std.proofs.Common.{◌≡◌, ℕ, List, [], take, refl, sym, ap, ◌∙◌, subst, inl, inr}
+use Rattle.std.specs.Prelude.{Option, Some, None, Result, Ok, Err, IsOk, IsErr, IfSome}
+use Rattle.std.proofs.lemmas.List.{append-nil}
+use Rattle.tuple_values.specs.Document.{ByteList, Doc}
+use Rattle.tuple_values.specs.declared.names.NameShards.{NameShards}
+use Rattle.io_edge.specs.Edge.{Appends, AppendsPrefix}
+use Rattle.command_words.specs.declared.command.Command.{Command}
+use Rattle.command_words.specs.declared.command.Command.TheVariants.{Eval, Script}
+use Rattle.stream_handler.specs.Outcomes.{body_of}
+use Rattle.stream_handler.specs.declared.outcome.Outcome.{Outcome}
+use Rattle.stream_commands.specs.Inputs.{limit, IsInput, IsReadOut}
+use Rattle.stream_commands.specs.Replies.{meaning, reply, reply_of, outcome_of}
+use Rattle.stream_commands.specs.Commands.{IsAnswered, IsRefused, IsBegun, IsBroken, IsCut, IsStarved, IsStopped}
+use Rattle.stream_commands.specs.Evaluations.{ending_of}
+use Rattle.stream_commands.specs.Endings.{EndsFor, WritesFor, Writes}
+use Rattle.stream_commands.specs.declared.ending.Ending.{Ending}
+use Rattle.stream_commands.specs.declared.ending.Ending.TheVariants.{Done, InputFailed, OutputFailed, WordsRefused, Faulty, OutOfMemory, InputCut, MessageRefused}
+use Rattle.form_request.specs.declared.reading.After.TheVariants.{Refusal, Rest}
+use Rattle.stream_commands.proofs.BegunLemmas.{script_read, script_run}
+
+-- the reply to an outcome tells its meaning
+body_of-outcome_of : (m : Result (List Doc) ByteList) → body_of (outcome_of m) 0 ≡ reply_of m
+body_of-outcome_of (Ok docs) = refl
+body_of-outcome_of (Err text) = refl
+
+-- the reply that tells this meaning is written
+told : (names : List NameShards) (all : List ℕ) (m : Result (List Doc) ByteList)
+    (left old new : Option (List ℕ)) → meaning names (take limit all) ≡ m → IsReadOut all left
+    → Appends old new (reply_of m)
+    → WritesFor (ending_of (outcome_of m)) (Some (Eval names)) all left old new
+told names all (Ok docs) left old new is out app =
+    subst (λ (m : Result (List Doc) ByteList).
+    IsOk m × IsReadOut all left × Appends old new (reply_of m)) (sym is) (refl, out, app)
+told names all (Err text) left old new is out app =
+    subst (λ (m : Result (List Doc) ByteList).
+    IsErr m × IsReadOut all left × Appends old new (reply_of m)) (sym is) (refl, out, app)
+
+-- the reply to an outcome is written, and the run ends so
+pub reply_written : (names : List NameShards) (had left : Option (List ℕ)) (bytes read : ByteList)
+    (o : Outcome) (end : Ending) (piece : ByteList) (old new : Option (List ℕ))
+    → IsInput had left bytes → read ≡ bytes → o ≡ outcome_of (meaning names read)
+    → end ≡ ending_of o → piece ≡ body_of o 0 → Appends old new piece
+    → Writes end (Some (Eval names)) had left old new
+reply_written names None left bytes read o end piece old new input same means ends writes app = tt
+reply_written names (Some all) left bytes read o end piece old new input same means ends writes app =
+    let m = meaning names (take limit all) in
+    let outcome_is : o ≡ outcome_of m =
+    subst (λ (b : ByteList). o ≡ outcome_of (meaning names b)) (same ∙ input.0) means in
+    let written : Appends old new (reply_of m) =
+    subst (λ (b : ByteList). Appends old new b)
+    (writes ∙ (ap (λ (x : Outcome). body_of x 0) outcome_is ∙ body_of-outcome_of m)) app in
+    subst (λ (e : Ending). WritesFor e (Some (Eval names)) all left old new)
+    (sym (ends ∙ ap ending_of outcome_is)) (told names all m left old new refl input.1 written)
+
+-- a first part of it is
+pub reply_begun : (names : List NameShards) (had left : Option (List ℕ)) (bytes read : ByteList)
+    (o : Outcome) (piece : ByteList) (old new : Option (List ℕ))
+    → IsInput had left bytes → read ≡ bytes → o ≡ outcome_of (meaning names read)
+    → piece ≡ body_of o 0 → AppendsPrefix old new piece
+    → Writes OutputFailed (Some (Eval names)) had left old new
+reply_begun names None left bytes read o piece old new input same means writes app = tt
+reply_begun names (Some all) left bytes read o piece old new input same means writes app =
+    let m = meaning names (take limit all) in
+    let outcome_is : o ≡ outcome_of m =
+    subst (λ (b : ByteList). o ≡ outcome_of (meaning names b)) (same ∙ input.0) means in
+    inr (
+      input.1,
+      subst (λ (b : ByteList). AppendsPrefix old new b)
+          (writes ∙ (ap (λ (x : Outcome). body_of x 0) outcome_is ∙ body_of-outcome_of m)) app,
+    )
+
+-- where memory was wanting, a first part of what is to be written is
+starved_begun : (command : Option Command) (all : List ℕ) (left old new : Option (List ℕ))
+    → IsStarved command all left old new → IsBegun command all left old new
+starved_begun None all left old new is = is
+starved_begun (Some (Eval names)) all left old new is = inl is
+starved_begun (Some (Script names)) all left old new is = is
+
+-- and where input failed
+broken_begun : (command : Option Command) (all : List ℕ) (left old new : Option (List ℕ))
+    → IsBroken command all left old new → IsBegun command all left old new
+broken_begun None all left old new is = absurd is
+broken_begun (Some (Eval names)) all left old new is = inl is
+broken_begun (Some (Script names)) all left old new is = script_read names all left old new is
+
+-- the whole of a reply is a first part of it
+whole_begun : (old new : Option (List ℕ)) (bytes : ByteList) → Appends old new bytes
+    → AppendsPrefix old new bytes
+whole_begun old new bytes app = (bytes, [], sym (append-nil bytes), app)
+
+-- what is answered was begun
+answered_begun : (command : Option Command) (all : List ℕ) (left old new : Option (List ℕ))
+    → IsAnswered command all left old new → IsBegun command all left old new
+answered_begun None all left old new is = absurd is
+answered_begun (Some (Eval names)) all left old new is =
+    inr (is.1, whole_begun old new (reply names (take limit all)) is.2)
+answered_begun (Some (Script names)) all left old new is =
+    script_run names all left (Rest 0 is.0) old new is.1
+
+-- so is what is refused
+refused_begun : (command : Option Command) (all : List ℕ) (left old new : Option (List ℕ))
+    → IsRefused command all left old new → IsBegun command all left old new
+refused_begun None all left old new is = absurd is
+refused_begun (Some (Eval names)) all left old new is =
+    inr (is.1, whole_begun old new (reply names (take limit all)) is.2)
+refused_begun (Some (Script names)) all left old new is = absurd is
+
+-- and what ends inside a message, or at one that is refused
+cut_begun : (command : Option Command) (all : List ℕ) (left old new : Option (List ℕ))
+    → IsCut command all left old new → IsBegun command all left old new
+cut_begun None all left old new is = absurd is
+cut_begun (Some (Eval names)) all left old new is = absurd is
+cut_begun (Some (Script names)) all left old new is =
+    script_run names all left (Rest is.0 is.1) old new is.3
+
+stopped_begun : (command : Option Command) (status : ℕ) (all : List ℕ)
+    (left old new : Option (List ℕ)) → IsStopped command status all left old new
+    → IsBegun command all left old new
+stopped_begun None status all left old new is = absurd is
+stopped_begun (Some (Eval names)) status all left old new is = absurd is
+stopped_begun (Some (Script names)) status all left old new is =
+    script_run names all left (Refusal status) old new is
+
+-- words are refused where there is no command, and then nothing is written
+refused_words : (command : Option Command) (all : List ℕ) (left old new : Option (List ℕ))
+    → EndsFor command WordsRefused → new ≡ old → IsBegun command all left old new
+refused_words None all left old new ends is = is
+refused_words (Some command) all left old new ends is = absurd ends
+
+-- at each ending a first part of what the command is to write is written
+begun_for : (end : Ending) (command : Option Command) (all : List ℕ)
+    (left old new : Option (List ℕ)) → EndsFor command end
+    → WritesFor end command all left old new → IsBegun command all left old new
+begun_for Done command all left old new ends w = answered_begun command all left old new w
+begun_for InputFailed command all left old new ends w = broken_begun command all left old new w
+begun_for OutputFailed command all left old new ends w = w
+begun_for WordsRefused command all left old new ends w =
+    refused_words command all left old new ends w
+begun_for Faulty command all left old new ends w = refused_begun command all left old new w
+begun_for OutOfMemory command all left old new ends w =
+    starved_begun command all left old new w
+begun_for InputCut command all left old new ends w = cut_begun command all left old new w
+begun_for (MessageRefused status) command all left old new ends w =
+    stopped_begun command status all left old new w
+
+-- the same, where the input tells its bytes
+pub begun_told : (end : Ending) (command : Option Command) (had left old new : Option (List ℕ))
+    → EndsFor command end → Writes end command had left old new
+    → IfSome had (λ all. IsBegun command all left old new)
+begun_told end command None left old new ends w = tt
+begun_told end command (Some all) left old new ends w =
+    begun_for end command all left old new ends w

@@ -1,0 +1,133 @@
+-- What `script` leaves on output: the replies to the requests of its input, each carried out alone
+-- over collections and a board of daemons that begin empty. After each whole request every running
+-- daemon runs once, in the order in which they were put on the board (own).
+use Rattle.std.specs.Prelude.{◌≡◌, ℕ, ◌<◌, ◌⊎◌, Bool, false, List, [], ◌∷◌, ◌++◌, Option, Some}
+use Rattle.io_edge.specs.Edge.{Appends}
+use Rattle.tuple_values.specs.Document.{ByteList}
+use Rattle.tuple_values.specs.declared.names.NameShards.{NameShards}
+use Rattle.exchange_rules.specs.Cells.{Log}
+use Rattle.exchange_rules.specs.Courses.{run_alone}
+use Rattle.exchange_rules.specs.Rows.{Layout}
+use Rattle.daemon_board.specs.Tickets.{Tickets, with_tickets}
+use Rattle.daemon_steps.specs.Steps.{steps_course}
+use Rattle.form_request.specs.Readings.{Reads}
+use Rattle.form_request.specs.Streams.{Held, begun}
+use Rattle.form_request.specs.declared.reading.After.{After}
+use Rattle.form_request.specs.declared.reading.After.TheVariants.{Refusal, Rest}
+use Rattle.form_request.specs.declared.reading.Message.{Message}
+use Rattle.stream_handler.specs.Asks.{ask_of}
+use Rattle.stream_handler.specs.Outcomes.{reply_of}
+use Rattle.stream_handler.specs.Passing.{Passes, front_text, said}
+use Rattle.stream_handler.specs.Refusals.{refusal_reply}
+use Rattle.stream_handler.specs.Requests.{request_course}
+use Rattle.stream_handler.specs.Sessions.{Came}
+use Rattle.stream_handler.specs.declared.outcome.Outcome.{Outcome}
+use Rattle.stream_commands.specs.Boards.{board_alone, no_tickets}
+use Rattle.stream_commands.specs.Replies.{layout, logs_at_start}
+
+-- what the board is after a message, and what it answers where the message's request asks it
+abbrev pub asked_alone : Layout → Tickets → Message → Tickets × Outcome
+asked_alone l b m = board_alone (ask_of l.names m.request) b
+
+-- what the request of a message leaves in the logs and is answered, carried out alone over these
+-- logs and this board
+abbrev pub answered_alone : Layout → List Log → Tickets → Message → List Log × Outcome
+answered_alone l logs b m =
+    run_alone 1 logs (request_course l (asked_alone l b m).1 m.request)
+
+-- the logs and the board once every running daemon of the board ran once, one after another in the
+-- order in which they were put on it
+abbrev pub after_daemons : Layout → List Log → Tickets → List Log × Tickets
+after_daemons l logs b =
+    let ran = run_alone 1 logs (steps_course l b.tickets) in (ran.0, with_tickets b ran.1)
+
+-- the logs and the board after a message and after the daemons that run then
+abbrev pub after_message : Layout → List Log → Tickets → Message → List Log × Tickets
+after_message l logs b m =
+    after_daemons l (answered_alone l logs b m).0 (asked_alone l b m).0
+
+-- the replies to these messages, each with `100 Continue` before it where it asks for that: one
+-- writer carries out their requests alone, in order, and after each whole request every running
+-- daemon runs once, in the order in which they were put on the board; each look is at the whole
+-- log, and all times are 0
+abbrev pub replies_alone : Layout → List Log → Tickets → List Message → ByteList
+replies_alone l logs b [] = []
+replies_alone l logs b (m ∷ messages) =
+    (said m.asks ++ reply_of m.request.closes 0 (answered_alone l logs b m).1)
+    ++ replies_alone l (after_message l logs b m).0 (after_message l logs b m).1 messages
+
+-- what is written of what stands behind the last message
+abbrev pub tail_text : After → ByteList
+tail_text (Refusal status) = refusal_reply status
+tail_text (Rest held asks) = said asks
+
+-- the replies over new collections and a new board
+abbrev pub replies_over : List NameShards → List Message → ByteList
+replies_over names messages =
+    replies_alone (layout names) (logs_at_start names) no_tickets messages
+
+-- all that a script writes whose input holds these messages and then this
+abbrev pub script_text : List NameShards → List Message → After → ByteList
+script_text names messages after = replies_over names messages ++ tail_text after
+
+-- an input, which was told to have these bytes, holds messages and then this, as do those bytes of it
+-- that were taken, and all that is to be written is written
+pub record IsScriptRun (names : List NameShards) (all : List ℕ) (left : Option (List ℕ)) (after : After)
+    (old new : Option (List ℕ)) : Type 0 where
+  pub messages : List Message
+  pub holds : Reads names all messages after
+  pub read : List ℕ
+  pub came : Came (Some all) left read
+  pub reads : Reads names read messages after
+  pub written : Appends old new (script_text names messages after)
+
+-- such an input ends between messages or is closed by one
+abbrev pub IsCarriedThrough : List NameShards → List ℕ → Option (List ℕ) → Option (List ℕ)
+    → Option (List ℕ) → Type 0
+IsCarriedThrough names all left old new =
+    (asks : Bool) × IsScriptRun names all left (Rest 0 asks) old new
+
+-- it ends inside a message
+abbrev pub IsCutShort : List NameShards → List ℕ → Option (List ℕ) → Option (List ℕ)
+    → Option (List ℕ) → Type 0
+IsCutShort names all left old new =
+    (held : ℕ) × (asks : Bool) × (0 < held) × IsScriptRun names all left (Rest held asks) old new
+
+-- one of its messages is refused with this status
+abbrev pub IsStoppedAt : List NameShards → ℕ → List ℕ → Option (List ℕ) → Option (List ℕ)
+    → Option (List ℕ) → Type 0
+IsStoppedAt names status all left old new = IsScriptRun names all left (Refusal status) old new
+
+-- the bytes that were taken of such an input hold messages and then something, and all that is to be
+-- written of them is written
+pub record IsScriptRead (names : List NameShards) (all : List ℕ) (left old new : Option (List ℕ))
+    : Type 0 where
+  pub messages : List Message
+  pub after : After
+  pub read : List ℕ
+  pub came : Came (Some all) left read
+  pub reads : Reads names read messages after
+  pub written : Appends old new (script_text names messages after)
+
+-- behind these messages of the bytes this text is written: of all that stands behind them, or, where
+-- they were not read to their end, of the message to which they lead
+abbrev pub IsBehind : List NameShards → List ℕ → List Message → ByteList → Type 0
+IsBehind names bytes messages text =
+    ((after : After) × Reads names bytes messages after × (text ≡ tail_text after))
+    ⊎ ((told : Bool) × (held : Held) × Passes names false begun bytes messages told held
+    × (text ≡ front_text held.stage told))
+
+-- the bytes that were taken of such an input, but perhaps for the last of them, hold messages, and a
+-- first part of what is to be written of them is written
+pub record IsScriptBegun (names : List NameShards) (all : List ℕ) (left old new : Option (List ℕ))
+    : Type 0 where
+  pub read : List ℕ
+  pub lost : List ℕ
+  pub came : Came (Some all) left (read ++ lost)
+  pub messages : List Message
+  pub text : ByteList
+  pub behind : IsBehind names read messages text
+  pub front : ByteList
+  pub rest : ByteList
+  pub written : Appends old new front
+  pub begins : replies_over names messages ++ text ≡ front ++ rest
