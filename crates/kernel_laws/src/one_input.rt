@@ -65,7 +65,7 @@ impl OneInput {
     pub fn keep<T: Drop>(&mut self, made: Result<T, Memory>) -> Result<T, Memory>
         ensures same { result ≡ made }
         ensures ok { IfOk made (λ _. self.new ≡ self.old) }
-        ensures err { IfErr made (λ _. self.new.failed ≡ true) }
+        ensures err { IfErr made (λ _. self.new ≡ record self.old { failed = true }) }
     {
         if made.is_err() {
             self.failed = true;
@@ -77,7 +77,7 @@ impl OneInput {
     pub fn push(&mut self, held: &mut Vec<Tuple>, tuple: Tuple) -> Result<(), Memory>
         ensures held { IfOk result (λ _. held.new.items ≡ held.old.items ++ tuple ∷ []) }
         ensures ok { IfOk result (λ _. self.new ≡ self.old) }
-        ensures err { IfErr result (λ _. self.new.failed ≡ true) }
+        ensures err { IfErr result (λ _. self.new ≡ record self.old { failed = true }) }
     {
         if held.push(tuple).is_err() {
             self.failed = true;

@@ -8,9 +8,16 @@ use std::sync::Arc;
 
 /// The name of a field, which tuples share: a copy of it takes no memory of its own. A contract sees
 /// its bytes.
-#[derive(Debug, Drop)]
+#[derive(Debug)]
 pub struct FieldName {
     text: Arc<Text, Global>,
+}
+
+impl Drop for FieldName {
+    fn drop(self) {
+        let FieldName { text } = self;
+        drop(text);
+    }
 }
 
 impl Model for FieldName {

@@ -6,9 +6,16 @@ use std::alloc::Global;
 use std::marker::Model;
 
 /// Items in the order in which they were added. A contract sees the list of them.
-#[derive(Debug, Drop)]
+#[derive(Debug)]
 pub struct Sequence<T> {
     items: Vec<T>,
+}
+
+impl<T: Drop> Drop for Sequence<T> {
+    fn drop(self) {
+        let Sequence { items } = self;
+        drop(items);
+    }
 }
 
 impl<T> Model for Sequence<T> {
@@ -52,7 +59,8 @@ impl<T> Sequence<T> {
     pub fn into_vec(self) -> Vec<T>
         ensures { result.items ≡ self }
     {
-        self.items
+        let Sequence { items } = self;
+        items
     }
 
     /// The items as a slice.

@@ -1,5 +1,5 @@
 // A tuple as a finite map.
-ghost use Rattle.std.specs.Prelude.{◌≡◌, ◌≢◌, ◌<◌, List, [], true, false, IfOk, IfErr, OnOk, OnErr, filter, length, option_map, slice_index_or, slice_get, Some, None};
+ghost use Rattle.std.specs.Prelude.{◌≡◌, ◌≢◌, ◌<◌, ◌≤◌, List, [], true, false, IfOk, IfErr, OnOk, OnErr, filter, length, option_map, slice_index_or, slice_get, Some, None};
 ghost use Rattle.std.specs.Option.{option_or};
 ghost use Rattle.std.specs.List.Sorted.{IsSearchInRange};
 ghost use Rattle.std.specs.declared.cmp.Ordering.TheVariants.{Equal};
@@ -40,9 +40,12 @@ impl Tuple {
     }
 
     /// The place of the named field, counted from 0 in the order of the names' bytes, and how many
-    /// fields there are where it isn't there.
+    /// fields there are exactly where it isn't there.
     pub fn place(&self, name: &str) -> u64
-        ensures { option_map (λ f. f.1) (slice_get self.now result) ≡ value_at name.now self.now }
+        ensures value { option_map (λ f. f.1) (slice_get self.now result)
+            ≡ value_at name.now self.now }
+        ensures found { result < length self.now → IsAt name.now result self.now }
+        ensures bound { result ≤ length self.now }
     {
         match place_of(&self.fields, name) {
             Ok(at) => at as u64,

@@ -27,9 +27,18 @@ pub struct Field {
 
 /// A finite map from names to values, kept in the order of the names' bytes.
 #[cycle(values)]
-#[derive(Debug, Drop)]
+#[derive(Debug)]
 pub struct Tuple {
     pub(crate) fields: Vec<Field>,
+}
+
+// By hand, so that a crate above lets go of one by a call.
+impl Drop for Tuple {
+    #[cycle(values)]
+    fn drop(self) {
+        let Tuple { fields } = self;
+        drop(fields);
+    }
 }
 
 impl Model for Tuple {
@@ -56,9 +65,18 @@ impl Model for Tuple {
 
 /// Tuples in the order in which they were added.
 #[cycle(values)]
-#[derive(Debug, Drop)]
+#[derive(Debug)]
 pub struct Tuples {
     items: Vec<Tuple>,
+}
+
+// By hand, so that a crate above lets go of one by a call.
+impl Drop for Tuples {
+    #[cycle(values)]
+    fn drop(self) {
+        let Tuples { items } = self;
+        drop(items);
+    }
 }
 
 impl Model for Tuples {
@@ -101,7 +119,8 @@ impl Tuples {
     pub fn into_vec(self) -> Vec<Tuple>
         ensures { result.items ≡ self }
     {
-        self.items
+        let Tuples { items } = self;
+        items
     }
 
     /// Adds a tuple at the end. After an `Err` the tuple is dropped.
