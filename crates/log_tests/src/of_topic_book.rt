@@ -152,3 +152,22 @@ fn the_thousandth_topic_is_the_last(rt: HostRuntime) {
     let mut book = BookState::empty(rt.alloc());
     assert!(rt; takes_one_more(&mut book, rt.alloc(), 999));
 }
+
+fn has_text(alloc: Global, fault: BookFault, want: &str) -> Result<bool, Memory> {
+    let text = format!(in alloc; "{fault}")?;
+    Ok(text.as_str() == want)
+}
+
+fn have_texts(alloc: Global) -> Result<bool, Memory> {
+    let kept = binding(alloc, "c")?;
+    Ok(
+        has_text(alloc, BookFault::TopicBound { kept }, "TopicBound")?
+            && has_text(alloc, BookFault::BookFull { topics: 1000 }, "BookFull")?
+            && has_text(alloc, BookFault::OutOfMemory, "out of memory")?,
+    )
+}
+
+#[test]
+fn a_refusal_is_told_by_its_name(rt: HostRuntime) {
+    assert!(rt; have_texts(rt.alloc()) == Ok(true));
+}

@@ -1,5 +1,5 @@
 // The slots of a shard's writes.
-ghost use Rattle.std.specs.Prelude.{◌≡◌, ℕ, ◌+◌, ◌-◌, ◌*◌, ◌/◌, ◌%◌, ◌^◌, ◌<◌, ◌≤◌, ◌++◌, ◌∷◌, [], IfOk, OnOk, length, take, slice_index_or, vec_len, vec_capacity};
+ghost use Rattle.std.specs.Prelude.{◌≡◌, ℕ, ◌+◌, ◌-◌, ◌*◌, ◌/◌, ◌%◌, ◌^◌, ◌<◌, ◌≤◌, ◌++◌, ◌∷◌, [], IfOk, OnErr, OnOk, length, max, take, slice_index_or, vec_len, vec_capacity};
 ghost use Rattle.std.specs.List.{slice_range};
 ghost use Rattle.shard_segments.specs.Lists.{joined, AreWhole};
 
@@ -17,12 +17,24 @@ const LIMIT: u64 = 0x8000_0000_0000_0000;
 
 /// Slots in their order: those of whole chunks, which don't change any more and are shared, and
 /// behind them the open ones. A contract sees the list of them and for how many more there is room.
-#[derive(Drop)]
 pub struct Chunks {
     whole: Vec<Chunk>,
     open: Vec<Slot>,
     count: u64,
     room: u64,
+}
+
+impl Drop for Chunks {
+    fn drop(self) {
+        let Chunks {
+            whole,
+            open,
+            count: _,
+            room: _,
+        } = self;
+        drop(whole);
+        drop(open);
+    }
 }
 
 impl Model for Chunks {
@@ -81,8 +93,8 @@ impl Chunks {
     /// Makes room for so many more slots. It closes chunks of those that are open.
     pub fn reserve(&mut self, more: u64) -> Result<(), Memory>
         ensures slots { self.new.slots ≡ self.old.slots }
-        ensures kept { self.old.room ≤ self.new.room }
-        ensures ok { OnOk result (more ≤ self.new.room) }
+        ensures room { OnOk result (self.new.room ≡ max more self.old.room) }
+        ensures err { OnErr result (self.new ≡ self.old) }
     {
         let room = more.max(self.room);
         if room >= LIMIT - self.count {
@@ -154,6 +166,7 @@ fn close(whole: &mut Vec<Chunk>, loose: &mut Vec<Slot>, room: usize) -> Result<(
     ensures slots { joined whole.new.items ++ loose.new.items
         ≡ joined whole.old.items ++ loose.old.items }
     ensures whole { AreWhole whole.new.items }
+    ensures few { OnOk result (vec_len loose.new < 1024) }
     ensures ok { OnOk result (vec_len loose.new + room ≤ vec_capacity loose.new) }
     ensures kept { (n : ℕ) → n ≤ room → vec_len loose.old + n ≤ vec_capacity loose.old
         → vec_len loose.new + n ≤ vec_capacity loose.new }

@@ -7,9 +7,15 @@ use std::sync::Arc;
 use tuple_values::{Memory, Tuple};
 
 /// A document that all who hold it share. A contract sees the document.
-#[derive(Drop)]
 pub struct Document {
     tuple: Arc<Tuple>,
+}
+
+impl Drop for Document {
+    fn drop(self) {
+        let Document { tuple } = self;
+        drop(tuple);
+    }
 }
 
 impl Model for Document {

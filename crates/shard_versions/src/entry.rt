@@ -19,10 +19,16 @@ pub enum Kind {
 }
 
 /// An entry of a shard's history, with the number of its writer.
-#[derive(Drop)]
 pub struct Entry {
     pub by: u64,
     pub kind: Kind,
+}
+
+impl Drop for Entry {
+    fn drop(self) {
+        let Entry { by: _, kind } = self;
+        drop(kind);
+    }
 }
 
 /// Entries that are appended together.

@@ -1,6 +1,6 @@
 // A history that is read as it stands, without the state of a shard.
 ghost use Rattle.std.specs.Prelude.{◌≡◌, ◌==◌, ◌&&◌, ◌^◌, ◌<◌, ◌++◌, not, map, IfOk, OnOk, length, option_copied};
-ghost use Rattle.shard_versions.specs.Stored.{kept_slot};
+ghost use Rattle.shard_versions.specs.Stored.{kept_slot, stored, places_of};
 ghost use Rattle.shard_versions.specs.Histories.{is_mark, settled, slot_of, slots, top, current};
 ghost use Rattle.shard_versions.specs.Histories.{write_at, writes_id};
 ghost use Rattle.shard_versions.specs.Readings.{is_written, left_under};
@@ -113,6 +113,8 @@ pub fn snapshot_of(alloc: Global, history: &[Entry]) -> Result<Snapshot, Memory>
     ensures top { IfOk result (λ s. s.top ≡ top history.now) }
     ensures upto { IfOk result (λ s. s.upto ≡ length history.now) }
     ensures documents { IfOk result (λ s. s.documents ≡ current history.now) }
+    ensures slots { IfOk result (λ s. s.slots ≡ stored history.now) }
+    ensures places { IfOk result (λ s. s.places ≡ places_of history.now) }
 {
     let entries = settled(history);
     let mut chunks = Chunks::empty(alloc);

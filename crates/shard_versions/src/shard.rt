@@ -25,7 +25,6 @@ use tuple_values::{Memory, Text};
 /// A shard with its whole history. What it keeps beside the entries, it keeps by their places,
 /// each counted from 1, with 0 for none: of each write the next one of its id, of each delivery
 /// the greatest version so far of its source and id, and where the last Mark stands.
-#[derive(Drop)]
 pub struct ShardState {
     log: Log,
     nexts: Vec<usize>,
@@ -37,6 +36,29 @@ pub struct ShardState {
     limit: u64,
     room: u64,
     ready: VecDeque<Made>,
+}
+
+impl Drop for ShardState {
+    fn drop(self) {
+        let ShardState {
+            log,
+            nexts,
+            greatests,
+            ids,
+            sends,
+            closed: _,
+            bytes: _,
+            limit: _,
+            room: _,
+            ready,
+        } = self;
+        drop(log);
+        drop(nexts);
+        drop(greatests);
+        drop(ids);
+        drop(sends);
+        drop(ready);
+    }
 }
 
 impl Model for ShardState {
@@ -152,6 +174,7 @@ impl ShardState {
         ensures entries { self.new.entries ≡ self.old.entries }
         ensures limit { self.new.limit ≡ self.old.limit }
         ensures room { OnOk result (HasRoom self.new step.now) }
+        ensures exact { OnOk result (self.new.room ≡ length step.now) }
         ensures err { OnErr result (self.new ≡ self.old) }
         ensures shard_full { IsErrOf result ShardFault.ShardFull
             ↔ (self.old.limit < entries_bytes self.old.entries + entries_bytes step.now) }

@@ -10,12 +10,24 @@ use tuple_values::{Memory, Tuple};
 
 /// A shard as it was read: its top, the number of entries seen, the slots of its writes up to the
 /// top, and the places of the current ones among them.
-#[derive(Drop)]
 pub struct Snapshot {
     pub(crate) reached: u64,
     pub(crate) seen: u64,
     pub(crate) chunks: Chunks,
     pub(crate) places: Vec<u64>,
+}
+
+impl Drop for Snapshot {
+    fn drop(self) {
+        let Snapshot {
+            reached: _,
+            seen: _,
+            chunks,
+            places,
+        } = self;
+        drop(chunks);
+        drop(places);
+    }
 }
 
 impl Model for Snapshot {

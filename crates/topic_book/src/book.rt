@@ -18,13 +18,27 @@ const TOPICS: u64 = 1000;
 
 /// The book with its whole history. What it keeps beside the entries are the topics, in the order
 /// in which they were bound.
-#[derive(Drop)]
 pub struct BookState {
     alloc: Global,
     entries: Vec<BookEntry>,
     topics: Vec<Topic>,
     ready: Option<Topic>,
     room: u64,
+}
+
+impl Drop for BookState {
+    fn drop(self) {
+        let BookState {
+            alloc: _,
+            entries,
+            topics,
+            ready,
+            room: _,
+        } = self;
+        drop(entries);
+        drop(topics);
+        drop(ready);
+    }
 }
 
 impl Model for BookState {
@@ -175,6 +189,7 @@ impl BookState {
         ensures ok { OnOk result (IsOpenTo self.old.entries entry.now) }
         ensures room { OnOk result
             (MayFollow self.old.entries entry.now → HasRoom self.new entry.now) }
+        ensures exact { OnOk result (self.new.room ≡ 1) }
         ensures err { OnErr result (self.new ≡ self.old) }
         ensures cause { IfErr result (λ fault. IsCauseOf self.old.entries entry.now fault) }
     {

@@ -3,15 +3,22 @@ use std::alloc::Global;
 use tuple_values::{FieldList, Memory, Sequence, Text, TryCopy, Versions};
 
 /// What a topic is known by: the collection of its checkpoints and its id.
-#[derive(Drop)]
 pub struct TopicKey {
     pub checkpoints: Text,
     pub id: Text,
 }
 
+impl Drop for TopicKey {
+    fn drop(self) {
+        let TopicKey { checkpoints, id } = self;
+        drop(checkpoints);
+        drop(id);
+    }
+}
+
 /// What a topic is bound to: its source, query and fields, where it delivers to, if anywhere, and
 /// the version at which it began in each shard of its source.
-#[derive(Debug, Drop)]
+#[derive(Debug)]
 pub struct Binding {
     pub src: Text,
     pub q: Text,
@@ -20,9 +27,25 @@ pub struct Binding {
     pub init: Versions,
 }
 
+impl Drop for Binding {
+    fn drop(self) {
+        let Binding {
+            src,
+            q,
+            fields,
+            dest,
+            init,
+        } = self;
+        drop(src);
+        drop(q);
+        drop(fields);
+        drop(dest);
+        drop(init);
+    }
+}
+
 /// An entry of the book, with the number of its writer: a topic is bound, or the versions up to
 /// which it was delivered are stored.
-#[derive(Drop)]
 pub enum BookEntry {
     Bind {
         by: u64,
@@ -34,6 +57,25 @@ pub enum BookEntry {
         key: TopicKey,
         upto: Versions,
     },
+}
+
+impl Drop for BookEntry {
+    fn drop(self) {
+        match self {
+            BookEntry::Bind {
+                by: _,
+                key,
+                binding,
+            } => {
+                drop(key);
+                drop(binding);
+            }
+            BookEntry::Store { by: _, key, upto } => {
+                drop(key);
+                drop(upto);
+            }
+        }
+    }
 }
 
 /// Entries of the book, in order.

@@ -79,3 +79,9 @@ returns-clause-top c =
 pub returns-clause-documents : goal.returns-clause-documents
 returns-clause-documents c =
     shown-documents c.args.history.now c.loop-place.chunks.slots c.loop-place.places.items (held c) (placed c)
+
+pub returns-clause-slots : goal.returns-clause-slots
+returns-clause-slots c = held c
+
+pub returns-clause-places : goal.returns-clause-places
+returns-clause-places c = placed c
