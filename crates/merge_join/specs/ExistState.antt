@@ -1,5 +1,5 @@
 -- The members of the kernels' law at intersect and complement (own).
-use Rattle.std.specs.Prelude.{◌≡◌, ℕ, List, [], ◌∷◌, Bool, true, false, None, length}
+use Rattle.std.specs.Prelude.{◌≡◌, ℕ, List, [], ◌∷◌, Bool, true, false, None, IsSome, length}
 use Rattle.tuple_values.specs.Document.{Doc}
 use Rattle.sort_spec.specs.Sorting.{IsAscending}
 use Rattle.sort_spec.specs.Terms.{less}
@@ -13,9 +13,10 @@ use Rattle.merge_join.specs.declared.exist.ExistKernel.{ExistKernel}
 abbrev pub ended : ExistKernel → List Bool
 ended k = k.left.ended ∷ k.right.ended ∷ []
 
--- it holds no tuple of the input
+-- a left tuple is awaited where none is held, a right one where a left one alone is held
 abbrev pub waits : ExistKernel → ℕ → Type 0
-waits k i = (i ≡ 0 → k.left.held ≡ None) × (i ≡ 1 → k.right.held ≡ None)
+waits k i =
+    (i ≡ 0 → k.left.held ≡ None) × (i ≡ 1 → (k.right.held ≡ None) × IsSome k.left.held)
 
 -- two inputs, each in the order of its fields, and nothing to come of one that has ended
 pub record IsReady (k : ExistKernel) (rests : Rests) : Type 0 where

@@ -1,5 +1,5 @@
 -- The members of the kernels' law at the inner and the outer join (own).
-use Rattle.std.specs.Prelude.{◌≡◌, ℕ, List, [], ◌∷◌, ◌++◌, Bool, true, false, None, length}
+use Rattle.std.specs.Prelude.{◌≡◌, ℕ, List, [], ◌∷◌, ◌++◌, Bool, true, false, None, IsSome, length}
 use Rattle.tuple_values.specs.Document.{Doc}
 use Rattle.kernel_laws.specs.Rests.{Rests, rest_at}
 use Rattle.merge_join.specs.Runs.{pairs_from, IsMidway}
@@ -10,9 +10,11 @@ use Rattle.merge_join.specs.declared.join.JoinKernel.{JoinKernel}
 abbrev pub ended : JoinKernel → List Bool
 ended k = k.left.ended ∷ k.right.ended ∷ []
 
--- it holds no tuple of the input but those of the run
+-- a left tuple is awaited where none is held, a right one where a left one alone is held, besides
+-- the right ones of the run
 abbrev pub waits : JoinKernel → ℕ → Type 0
-waits k i = (i ≡ 0 → k.left.held ≡ None) × (i ≡ 1 → k.right.held ≡ None)
+waits k i =
+    (i ≡ 0 → k.left.held ≡ None) × (i ≡ 1 → (k.right.held ≡ None) × IsSome k.left.held)
 
 -- two inputs, with nothing to come of one that has ended, and what is held fits them
 pub record IsReady (k : JoinKernel) (rests : Rests) : Type 0 where

@@ -20,12 +20,25 @@ use tuple_values::{Memory, Tuple};
 
 /// Gives the left tuples that have an equal in the right input by pairs of fields, or those that
 /// have none. Both inputs are in the order of their fields.
-#[derive(Drop)]
 pub struct ExistKernel {
     keep: bool,
     terms: JoinTerms,
     left: Side,
     right: Side,
+}
+
+impl Drop for ExistKernel {
+    fn drop(self) {
+        let ExistKernel {
+            keep: _,
+            terms,
+            left,
+            right,
+        } = self;
+        drop(terms);
+        drop(left);
+        drop(right);
+    }
 }
 
 impl ExistKernel {

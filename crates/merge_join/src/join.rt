@@ -24,7 +24,6 @@ use tuple_values::{Memory, TryCopy, Tuple};
 /// Gives a left tuple over a right one for each two that are equal by pairs of fields, and a left
 /// tuple without an equal as it is where the join is outer. Both inputs are in the order of their
 /// fields. It holds the right tuples of one key at a time.
-#[derive(Drop)]
 pub struct JoinKernel {
     alloc: Global,
     outer: bool,
@@ -36,6 +35,25 @@ pub struct JoinKernel {
     run: Vec<Tuple>,
     right: Side,
     failed: bool,
+}
+
+impl Drop for JoinKernel {
+    fn drop(self) {
+        let JoinKernel {
+            alloc: _,
+            outer: _,
+            terms,
+            left,
+            place: _,
+            run,
+            right,
+            failed: _,
+        } = self;
+        drop(terms);
+        drop(left);
+        drop(run);
+        drop(right);
+    }
 }
 
 impl JoinKernel {
