@@ -11,7 +11,9 @@ mod place;
 mod query;
 mod reader;
 mod reading;
+mod term;
 
 pub use fault::QueryFault;
 pub use query::{Clause, Clauses, Query, Role, Test, What};
 pub use reader::{read_query, readings_agree};
+pub use term::Term;

@@ -8,7 +8,7 @@ use crate::open_lists::{OpenList, Outside};
 use crate::place::{Kind, Place, Side, Stage};
 use crate::query::{copy_option, require_last};
 use crate::reading::Reading;
-use crate::{Clauses, Role, Test, What};
+use crate::{Clauses, Role, Term, Test, What};
 use std::mem;
 use tuple_values::Memory;
 
@@ -193,7 +193,7 @@ impl Reading {
             self.end_test(Test::Prefix(text))?;
             return Ok(true);
         }
-        self.end_test(Test::Word(text))?;
+        self.end_test(Test::Word(Term::of(text)))?;
         self.item(Stage::Behind, c)
     }
 

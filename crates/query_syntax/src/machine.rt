@@ -10,7 +10,7 @@ ghost use Rattle.query_syntax.specs.declared.place.Place.TheVariants.{Gap, To};
 use crate::letters::{is_blank, is_digit, is_just, is_operator};
 use crate::place::{Kind, Place, Side, Stage};
 use crate::reading::Reading;
-use crate::{Clauses, Test};
+use crate::{Clauses, Term, Test};
 use tuple_values::Memory;
 
 impl Reading {
@@ -191,7 +191,7 @@ impl Reading {
             (end_step Number (machine self.old) c (encode_utf8 c)) live (machine self.new)) }
     {
         let text = self.take_text();
-        self.end_test(Test::Word(text))?;
+        self.end_test(Test::Word(Term::of(text)))?;
         self.item(Stage::Behind, c)
     }
 
@@ -212,7 +212,7 @@ impl Reading {
             Kind::Quote => {
                 if c == '"' {
                     let text = self.take_text();
-                    self.end_test(Test::Word(text))?;
+                    self.end_test(Test::Word(Term::of(text)))?;
                     return Ok(true);
                 }
                 Ok(false)

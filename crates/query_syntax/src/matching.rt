@@ -11,9 +11,9 @@ ghost use Rattle.query_syntax.specs.Matching.{number_passes, value_passes, same_
 ghost use Rattle.query_syntax.specs.Matching.{has_role, list_rule};
 ghost use Rattle.query_syntax.specs.Matching.{what_matches, some_clause, is_negative, matches};
 
-use crate::{Clauses, Query, Role, Test, What};
+use crate::{Clauses, Query, Role, Term, Test, What};
 use std::cmp::Ordering;
-use tuple_values::{Text, Tuple, Value, whole};
+use tuple_values::{Tuple, Value};
 
 // Whether what compares so is inside a bound.
 fn is_within(included: bool, order: Ordering) -> bool
@@ -26,7 +26,7 @@ fn is_within(included: bool, order: Ordering) -> bool
     }
 }
 
-fn text_above(low: Option<&Text>, included: bool, text: &str) -> bool
+fn text_above(low: Option<&Term>, included: bool, text: &str) -> bool
     ensures { result ≡ text_above (option_map (λ b. b.now) low.entry) included text.now }
 {
     match low {
@@ -35,7 +35,7 @@ fn text_above(low: Option<&Text>, included: bool, text: &str) -> bool
     }
 }
 
-fn text_below(high: Option<&Text>, included: bool, text: &str) -> bool
+fn text_below(high: Option<&Term>, included: bool, text: &str) -> bool
     ensures { result ≡ text_below (option_map (λ b. b.now) high.entry) included text.now }
 {
     match high {
@@ -44,24 +44,24 @@ fn text_below(high: Option<&Text>, included: bool, text: &str) -> bool
     }
 }
 
-fn number_above(low: Option<&Text>, included: bool, n: i64) -> bool
+fn number_above(low: Option<&Term>, included: bool, n: i64) -> bool
     ensures { result ≡ number_above (option_map (λ b. b.now) low.entry) included n }
 {
     match low {
         None => true,
-        Some(low) => match whole(low.as_str()) {
+        Some(low) => match low.number() {
             None => false,
             Some(low) => is_within(included, low.cmp(&n)),
         },
     }
 }
 
-fn number_below(high: Option<&Text>, included: bool, n: i64) -> bool
+fn number_below(high: Option<&Term>, included: bool, n: i64) -> bool
     ensures { result ≡ number_below (option_map (λ b. b.now) high.entry) included n }
 {
     match high {
         None => true,
-        Some(high) => match whole(high.as_str()) {
+        Some(high) => match high.number() {
             None => false,
             Some(high) => is_within(included, n.cmp(&high)),
         },
@@ -93,7 +93,7 @@ impl Test {
         ensures { result ≡ number_passes self.now n }
     {
         match self {
-            Test::Word(word) => match whole(word.as_str()) {
+            Test::Word(word) => match word.number() {
                 None => false,
                 Some(m) => m == n,
             },

@@ -5,6 +5,7 @@ ghost use Rattle.query_syntax.specs.Tree.{what_depth, clauses_depth};
 ghost use Rattle.query_syntax.specs.Views.{clause_tree};
 ghost use Rattle.query_syntax.specs.Items.{require_last};
 
+use crate::Term;
 use std::alloc::Global;
 use std::marker::Model;
 use tuple_values::{Memory, Text, TryCopy};
@@ -38,7 +39,7 @@ impl Role {
 #[derive(Drop)]
 pub enum Test {
     /// The value is this text, or the number that the text is.
-    Word(Text),
+    Word(Term),
     /// The value is a text that begins so.
     Prefix(Text),
     /// The field is there.
@@ -46,9 +47,9 @@ pub enum Test {
     /// The value lies between the bounds: a text by its bytes, a number by its size. A bound is
     /// itself inside where its flag says so; no bound leaves that side open.
     Range {
-        low: Option<Text>,
+        low: Option<Term>,
         low_in: bool,
-        high: Option<Text>,
+        high: Option<Term>,
         high_in: bool,
     },
 }
@@ -78,9 +79,15 @@ pub struct Clauses {
 }
 
 /// A query, by its clauses.
-#[derive(Drop)]
 pub struct Query {
     pub clauses: Clauses,
+}
+
+impl Drop for Query {
+    fn drop(self) {
+        let Query { clauses } = self;
+        drop(clauses);
+    }
 }
 
 impl Model for Clauses {
@@ -162,6 +169,16 @@ pub fn copy_option(text: &Option<Text>, alloc: Global) -> Result<Option<Text>, M
     }
 }
 
+// The same bound, or none.
+fn copy_bound(bound: &Option<Term>, alloc: Global) -> Result<Option<Term>, Memory>
+    ensures { IfOk result (λ copy. copy ≡ bound.now) }
+{
+    match bound {
+        None => Ok(None),
+        Some(bound) => Ok(Some(bound.copy(alloc)?)),
+    }
+}
+
 impl TryCopy for Test {
     fn copy(&self, alloc: Global) -> Result<Self, Memory> {
         match self {
@@ -174,8 +191,8 @@ impl TryCopy for Test {
                 high,
                 high_in,
             } => {
-                let low = copy_option(low, alloc)?;
-                let high = copy_option(high, alloc)?;
+                let low = copy_bound(low, alloc)?;
+                let high = copy_bound(high, alloc)?;
                 Ok(Test::Range {
                     low,
                     low_in: *low_in,

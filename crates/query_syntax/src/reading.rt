@@ -6,6 +6,7 @@ ghost use Rattle.query_syntax.specs.declared.place.Side.TheVariants.{High};
 use crate::letters::{is_blank, is_just};
 use crate::open_lists::OpenLists;
 use crate::place::{Kind, Place, Side, Stage};
+use crate::term::term_of;
 use crate::{Clause, Clauses, Role, Test, What};
 use std::alloc::Global;
 use std::mem;
@@ -165,8 +166,8 @@ impl Reading {
     pub fn end_range(&mut self, high_in: bool) -> Result<(), Memory>
         ensures { OnOk result (machine self.new ≡ end_range high_in (machine self.old)) }
     {
-        let low = self.low.take();
-        let high = self.high.take();
+        let low = term_of(self.low.take());
+        let high = term_of(self.high.take());
         let low_in = self.low_in;
         self.end_test(Test::Range {
             low,
