@@ -19,6 +19,7 @@ use Rattle.stream_site.specs.Plains.{logs_in}
 use Rattle.turn_table.specs.Calls.{known, table_of}
 use Rattle.turn_table.specs.Histories.{GrewBy}
 use Rattle.turn_table.specs.Knowledge.{IsFree}
+use Rattle.turn_table.specs.declared.rule.Opening.{Opening}
 use Rattle.site_cells.specs.Cells.{abouts_of, no_logs}
 use Rattle.site_cells.specs.Values.{about_book, about_in, about_of, about_shard, log_in, log_of_cell}
 use Rattle.site_cells.specs.declared.cell_value.CellValue.{CellValue}
@@ -37,7 +38,7 @@ all-of P [] a k d lt = absurd (omega (arith, lt))
 all-of P (x ∷ xs) a zero d lt = a.0
 all-of P (x ∷ xs) a (suc k) d lt = all-of P xs a.1 k d (omega (arith, lt))
 
-module _ (table : TableId) (start : List SiteCell) (l : Layout) where
+module _ (table : TableId) (start : Opening SiteCell) (l : Layout) where
   -- what is known of the passes of the table
   pub record AreInside (passes : List (PassOf TablePass)) : Type 0 where
     pub own : AllByRecursion (λ (p : TablePass). table_of p ≡ table) (passes_in passes)
@@ -100,9 +101,9 @@ module _ (table : TableId) (start : List SiteCell) (l : Layout) where
         (each_of (λ (p : TablePass). Seen (known p).number (known p).seen) (passes_in passes) s))
 
 -- the cells with which the site started, by any of its passes
-pub opened-by : (table : TableId) (start : List SiteCell) (l : Layout)
+pub opened-by : (table : TableId) (start : Opening SiteCell) (l : Layout)
     (passes : List (PassOf TablePass)) → 0 < length passes
-    → All (IsPassOf table start l) passes → IsOpened l.names l.limit start
+    → All (IsPassOf table start l) passes → IsOpened l.names l.limit start.cells.value
 opened-by table start l [] lt a = absurd (omega (arith, lt))
 opened-by table start l (p ∷ passes) lt a = (a 0 p (omega arith)).opened
 

@@ -26,6 +26,9 @@ module _ (names : List NameShards) (limit : ℕ) (k k2 : Known CellAbout LogEntr
         knowing = subst (IsKnowing names limit) (sym gone)
             (record {
               about = v.knowing.about;
+              begun = v.knowing.begun;
+              listed = v.knowing.listed;
+              signed = v.knowing.signed;
               since = v.knowing.since;
               fit = v.knowing.fit;
             });

@@ -16,3 +16,5 @@ pub mod StartLemmas
 pub mod VisitLemmas
 pub mod EndLemmas
 pub mod FitLemmas
+pub mod SignedLemmas
+pub mod AloneLemmas

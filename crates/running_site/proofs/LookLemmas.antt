@@ -20,12 +20,14 @@ use Rattle.turn_table.specs.Knowledge.{hand, looked, took, waited}
 use Rattle.turn_table.specs.Steps.{AddsOthers, Glimpse}
 use Rattle.turn_table.specs.declared.knowledge.Known.{Known}
 use Rattle.turn_table.specs.declared.turn.Turn.{Turn}
+use Rattle.site_cells.specs.Cells.{no_logs}
 use Rattle.site_cells.specs.Values.{about_in, law_of, log_of_cell, tells_of}
 use Rattle.site_cells.specs.declared.site_cell.SiteCell.{SiteCell}
-use Rattle.running_site.specs.Passes.{sight_in, writer_in, AreSeenFit}
+use Rattle.running_site.specs.Passes.{sight_in, writer_in, AreSeenFit, AreSeenSigned, IsListed}
 use Rattle.running_site.specs.Visits.{AreCounted, IsTurn, IsVisit}
 use Rattle.running_site.proofs.FitLemmas.{lawful-fit, set-fit}
 use Rattle.running_site.proofs.KnownLemmas.{are-were, each_of, names_of, one_more_is}
+use Rattle.running_site.proofs.SignedLemmas.{look-signed, set-signed}
 use Rattle.running_site.proofs.TopicLemmas.{counted-fit}
 
 module _ (k k1 k2 : Known CellAbout LogEntry) (cell count : ℕ) (t : Turn SiteCell)
@@ -43,8 +45,8 @@ module _ (k k1 k2 : Known CellAbout LogEntry) (cell count : ℕ) (t : Turn SiteC
   known-is = second ∙ (λ i. looked (here i) h (first i))
 
   -- what came since the pass had seen the cell
-  came : (adds : AddsOthers author_of k1 t.cell h) → h ≡ at k.seen cell ++ adds.0
-  came adds = adds.1 ∙ (λ i. at (first i).seen (here i) ++ adds.0)
+  came : (adds : AddsOthers author_of k1 t.cell h) → h ≡ at k.seen cell ++ adds.0.0
+  came adds = adds.0.1 ∙ (λ i. at (first i).seen (here i) ++ adds.0.0)
 
   -- a pass that looked is a writer that looked
   pub looked-writer : (upto : ℕ) (marks more : List CutMark) (own : List OwnMark)
@@ -52,10 +54,10 @@ module _ (k k1 k2 : Known CellAbout LogEntry) (cell count : ℕ) (t : Turn SiteC
       → more ≡ marks ++ record { cell = cell; upto = upto } ∷ []
       → LooksAt (writer_in k marks own) (writer_in k2 more own) cell
   looked-writer upto marks more own lt adds long marked =
-      let new : Log = adds.0 in
+      let new : Log = adds.0.0 in
       let whole = came adds in
       let others = subst (λ (x : Known CellAbout LogEntry).
-      All (λ e. author_of e ≢ x.number) new) first adds.2 in
+      All (λ e. author_of e ≢ x.number) new) first adds.0.2 in
       let seen_upto : upto ≡ length (at k.seen cell ++ new) = long ∙ ap length whole in
       let marked' : more
       ≡ marks ++ record { cell = cell; upto = length (at k.seen cell ++ new) } ∷ [] =
@@ -75,7 +77,7 @@ module _ (k k1 k2 : Known CellAbout LogEntry) (cell count : ℕ) (t : Turn SiteC
       }
 
   module _ (names : List NameShards) (limit : ℕ) (v : IsVisit names limit k None)
-      (g : Glimpse law_of tells_of t.cell k2) where
+      (g : Glimpse about_in log_of_cell author_of law_of tells_of t.cell k2) where
     about-is : k2.about ≡ k.about
     about-is = ap (λ (x : Known CellAbout LogEntry). x.about) known-is
 
@@ -86,27 +88,33 @@ module _ (k k1 k2 : Known CellAbout LogEntry) (cell count : ℕ) (t : Turn SiteC
     told-names = ap names_told (about-is ∙ v.knowing.about) ∙ names_of names limit
 
     -- the law holds of the histories at the look
-    lawful : IsLawful names g.histories
-    lawful = subst (λ ns. IsLawful ns g.histories) told-names g.lawful
+    lawful : IsLawful names g.kept.histories
+    lawful = subst (λ ns. IsLawful ns g.kept.histories) told-names g.kept.lawful
 
     -- the book that was seen there is on the site's collections
     topics : at k2.seen t.cell ≡ h → t.cell ≡ cells_in names
         → AreCounted names (book_in h)
     topics seen book =
-        let same : get_or g.histories (cells_in names) [] ≡ h =
-        ap (λ c. get_or g.histories c []) (sym book) ∙ (sym g.whole ∙ seen) in
+        let same : get_or g.kept.histories (cells_in names) [] ≡ h =
+        ap (λ c. get_or g.kept.histories c []) (sym book) ∙ (sym g.whole ∙ seen) in
         subst (λ l. AreCounted names (book_in l)) same
-        (counted-fit names (book_in (get_or g.histories (cells_in names) []))
+        (counted-fit names (book_in (get_or g.kept.histories (cells_in names) []))
         lawful.law.fit_book.fit)
 
     -- it has just this turn
-    pub looked-visit : cell < length k.seen → hand k2 t.cell ≡ Some h → at k2.seen t.cell ≡ h
+    pub looked-visit : cell < length k.seen → AddsOthers author_of k1 t.cell h → hand k2 t.cell ≡ Some h → at k2.seen t.cell ≡ h
         → turn_about about_in t ≡ slice_get k.about cell → IsVisit names limit k2 (Some t)
-    looked-visit lt holds seen about =
+    looked-visit lt adds holds seen about =
         let free = v.idle refl in
         let long : length k2.seen ≡ length k.seen =
         ap (λ (x : Known CellAbout LogEntry). length x.seen) known-is
         ∙ length-set k.seen cell h in
+        let began : k1.start ≡ no_logs names = ap (λ (x : Known CellAbout LogEntry). x.start) first
+        ∙ v.knowing.begun in
+        let came_signed : All (λ entry. IsListed k.numbers (author_of entry)) h =
+        subst (λ (x : Known CellAbout LogEntry).
+        All (λ entry. IsListed x.numbers (author_of entry)) h) first
+        (look-signed names k1 t.cell h began adds) in
         let turn : IsTurn names k2 t = record {
           within = omega (arith, long, lt, here);
           in_hand = holds;
@@ -121,12 +129,18 @@ module _ (k k1 k2 : Known CellAbout LogEntry) (cell count : ℕ) (t : Turn SiteC
         record {
           knowing = record {
             about = about-is ∙ v.knowing.about;
+            begun = ap (λ (x : Known CellAbout LogEntry). x.start) known-is ∙ v.knowing.begun;
+            listed = subst (λ (x : Known CellAbout LogEntry). IsListed x.numbers x.number)
+                (sym known-is) v.knowing.listed;
+            signed = subst (λ (x : Known CellAbout LogEntry). AreSeenSigned x.numbers x.seen)
+                (sym known-is)
+                (set-signed k.numbers k.seen cell h lt v.knowing.signed came_signed);
             since = λ c looked.
                 are-were (last_seen (sight_in k2) c) k2.seen (g.since c looked);
             fit = subst (λ (x : Known CellAbout LogEntry). AreSeenFit names x.seen)
                 (sym known-is) (set-fit names k.seen cell h lt v.knowing.fit
-                (lawful-fit names g.histories cell h lawful
-                (sym seen ∙ (g.whole ∙ ap (λ c. get_or g.histories c []) here))));
+                (lawful-fit names g.kept.histories cell h lawful
+                (sym seen ∙ (g.whole ∙ ap (λ c. get_or g.kept.histories c []) here))));
           };
           idle = λ e. absurd (cc);
           holding = λ u e. let same : t ≡ u = cc in subst (IsTurn names k2) same turn;
@@ -136,15 +150,15 @@ module _ (k k1 k2 : Known CellAbout LogEntry) (cell count : ℕ) (t : Turn SiteC
     pub looked-later : cell < length k.looks → cell < length k.seen
         → AddsOthers author_of k1 t.cell h → IsLater names (sight_in k) (sight_in k2)
     looked-later lt within adds =
-        let new : Log = adds.0 in
+        let new : Log = adds.0.0 in
         let sight : sight_in k2 ≡ looked_at cell h (sight_in k) = ap sight_in known-is in
-        let seen : get_or k2.seen cell [] ≡ get_or g.histories cell [] =
-        subst (λ c. get_or k2.seen c [] ≡ get_or g.histories c []) here g.whole in
+        let seen : get_or k2.seen cell [] ≡ get_or g.kept.histories cell [] =
+        subst (λ c. get_or k2.seen c [] ≡ get_or g.kept.histories c []) here g.whole in
         let told = subst (λ ns. (d : ℕ) → 0 < slice_index k2.looks d
-        → IsLookCovered ns d (last_seen (sight_in k2) d) g.histories) told-names g.told in
+        → IsLookCovered ns d (last_seen (sight_in k2) d) g.kept.histories) told-names g.told in
         let told' = subst (λ (x : Sight). (d : ℕ) → 0 < slice_index x.looks d
-        → IsLookCovered names d (last_seen x d) g.histories) sight told in
+        → IsLookCovered names d (last_seen x d) g.kept.histories) sight told in
         subst (IsLater names (sight_in k)) (sym sight)
-        (later-look names (sight_in k) cell h new lt g.histories within (sym (came adds))
-        (subst (λ (x : Sight). get_or x.seen cell [] ≡ get_or g.histories cell []) sight seen)
+        (later-look names (sight_in k) cell h new lt g.kept.histories within (sym (came adds))
+        (subst (λ (x : Sight). get_or x.seen cell [] ≡ get_or g.kept.histories cell []) sight seen)
         told')

@@ -41,6 +41,7 @@ use Rattle.running_site.specs.Seals.{IsSealed}
 use Rattle.running_site.specs.Visits.{AreCounted, IsTurn, IsVisit}
 use Rattle.running_site.proofs.FitLemmas.{sealed-fit}
 use Rattle.running_site.proofs.KnownLemmas.{are-were, seen-more, were-are}
+use Rattle.running_site.proofs.SignedLemmas.{sealed-signed}
 use Rattle.running_site.proofs.TopicLemmas.{counted-more}
 use Rattle.running_site.proofs.ValueLemmas.{step-by}
 
@@ -155,6 +156,10 @@ module _ (names : List NameShards) (limit : ℕ) (k k2 : Known CellAbout LogEntr
       ∙ length-set k.seen cell now in
       let knowing : IsKnowing names limit (sealed cell now k) = record {
         about = v.knowing.about;
+        begun = v.knowing.begun;
+        listed = v.knowing.listed;
+        signed = sealed-signed names k.numbers k.number k.seen cell x v.knowing.listed
+            v.knowing.signed may lt;
         since = λ c looked.
             are-were (last_seen (sight_in k) c) (set k.seen cell now)
             (seen-more (last_seen (sight_in k) c) k.seen cell (entries_of x) lt

@@ -1,6 +1,6 @@
 -- The passes and the cells with which a site starts.
 use Rattle.std.proofs.Common.{◌≡◌, ℕ, zero, suc, ◌+◌, ◌<◌, List, [], ◌∷◌, length, get_or, map, replicate, slice_index, refl, sym, ap, ◌∙◌, subst, arith}
-use Rattle.std.specs.Prelude.{All, Option, Some, None}
+use Rattle.std.specs.Prelude.{All, Contains, Option, Some, None}
 use Rattle.std.specs.List.{AllByRecursion}
 use Rattle.std.proofs.lemmas.List.{length-map, length-replicate}
 use Rattle.tuple_values.specs.declared.names.NameShards.{NameShards}
@@ -9,6 +9,7 @@ use Rattle.topic_book.specs.Cells.{cells_in}
 use Rattle.shard_versions.specs.declared.cut.CutMark.{CutMark}
 use Rattle.shard_versions.specs.declared.cut.OwnMark.{OwnMark}
 use Rattle.exchange_rules.specs.declared.log_entry.LogEntry.{LogEntry}
+use Rattle.exchange_rules.specs.Cells.{Log}
 use Rattle.site_laws.specs.Looks.{last_seen}
 use Rattle.site_laws.specs.Sealings.{names_told}
 use Rattle.site_laws.specs.SiteCells.{AreSeenOf, IsLawful}
@@ -17,6 +18,7 @@ use Rattle.site_laws.proofs.KeepLemmas.{nothing-lawful}
 use Rattle.turn_table.specs.Calls.{known, table_of}
 use Rattle.turn_table.specs.Knowledge.{fresh, hand}
 use Rattle.turn_table.specs.declared.knowledge.Known.{Known}
+use Rattle.turn_table.specs.declared.rule.Opening.{Opening}
 use Rattle.site_cells.specs.Cells.{abouts_of, no_logs}
 use Rattle.site_cells.specs.Values.{about_in, log_of_cell}
 use Rattle.site_cells.specs.declared.site_cell.SiteCell.{SiteCell}
@@ -26,6 +28,7 @@ use Rattle.running_site.specs.declared.pass.PassOf.{PassOf}
 use Rattle.running_site.proofs.CloseLemmas.{all-of}
 use Rattle.running_site.proofs.FitLemmas.{fresh-fit}
 use Rattle.running_site.proofs.KnownLemmas.{names_of, were-are}
+use Rattle.running_site.proofs.SignedLemmas.{fresh-signed, listed-of}
 
 -- the same thing lies at each place
 all-same : {X : Type 0} (n i : ℕ) (x : X) → get_or (replicate n x) i x ≡ x
@@ -67,48 +70,58 @@ start-long names cells e =
     let c : length (no_logs names) ≡ cells_in names + 1 = simp length-replicate in
     omega (arith, a, b, c)
 
-module _ (names : List NameShards) (limit : ℕ) (abouts : List CellAbout) (count : ℕ)
-    (told : abouts ≡ abouts_of names limit) where
-  -- what a new pass knows
-  fresh-knowing : (n : ℕ) → IsKnowing names limit (fresh abouts count n)
-  fresh-knowing n = record {
+module _ (names : List NameShards) (limit : ℕ) (abouts : List CellAbout) (start : List Log)
+    (all : List ℕ) (count : ℕ) (told : abouts ≡ abouts_of names limit)
+    (begun : start ≡ no_logs names) where
+  -- a pass of the table that starts
+  abbrev new_pass : ℕ → Known CellAbout LogEntry
+  new_pass = fresh abouts start all count
+
+  -- what it knows
+  fresh-knowing : (n : ℕ) → Contains all n → IsKnowing names limit (new_pass n)
+  fresh-knowing n listed = record {
     about = told;
+    begun = begun;
+    listed = listed-of all n listed;
+    signed = fresh-signed all count;
     since = λ cell looked.
         let none = all-same count cell (let z : ℕ = 0 in z) in absurd (omega (arith, none, looked));
     fit = fresh-fit names count;
   }
 
   -- each new pass is the table's
-  pub fresh-own : (table : TableId) (cells : List SiteCell) (numbers : List ℕ)
-      (inside : List TablePass) (made : List (PassOf TablePass)) → IsOpened names limit cells
-      → map content made ≡ map recorded inside
-      → map known inside ≡ map (fresh abouts count) numbers
+  pub fresh-own : (table : TableId) (key : Opening SiteCell) (numbers : List ℕ)
+      (inside : List TablePass) (made : List (PassOf TablePass))
+      → IsOpened names limit key.cells.value → all ≡ key.numbers.value
+      → AllByRecursion (Contains all) numbers → map content made ≡ map recorded inside
+      → map known inside ≡ map new_pass numbers
       → AllByRecursion (λ (p : TablePass). table_of p ≡ table) inside
-      → AllByRecursion (IsPassOf table cells (layout_in names limit)) made
-  fresh-own table cells numbers inside [] o e f a = tt
-  fresh-own table cells numbers [] (p ∷ made) o e f a = absurd (cc)
-  fresh-own table cells [] (q ∷ inside) (p ∷ made) o e f a = absurd (cc)
-  fresh-own table cells (n ∷ numbers) (q ∷ inside) (p ∷ made) o e f a =
+      → AllByRecursion (IsPassOf table key (layout_in names limit)) made
+  fresh-own table key numbers inside [] o w l e f a = tt
+  fresh-own table key numbers [] (p ∷ made) o w l e f a = absurd (cc)
+  fresh-own table key [] (q ∷ inside) (p ∷ made) o w l e f a = absurd (cc)
+  fresh-own table key (n ∷ numbers) (q ∷ inside) (p ∷ made) o w l e f a =
       let here : content p ≡ recorded q = cc in
       let rest : map content made ≡ map recorded inside = cc in
-      let knows : known q ≡ fresh abouts count n = cc in
-      let others : map known inside ≡ map (fresh abouts count) numbers = cc in (
+      let knows : known q ≡ new_pass n = cc in
+      let others : map known inside ≡ map new_pass numbers = cc in (
         record {
           opened = o;
           inside = q;
           there = ap (λ (t : Option TablePass × List CutMark × List OwnMark). t.0) here;
           table_is = a.0;
-          knowing = subst (IsKnowing names limit) (sym knows) (fresh-knowing n);
+          numbered = ap (λ (k : Known CellAbout LogEntry). k.numbers) knows ∙ w;
+          knowing = subst (IsKnowing names limit) (sym knows) (fresh-knowing n l.0);
           free = λ cell. ap (λ (k : Known CellAbout LogEntry). hand k cell) knows
               ∙ all-same count cell None;
         },
-        fresh-own table cells numbers inside made o rest others a.1,
+        fresh-own table key numbers inside made o w l.1 rest others a.1,
       )
 
   -- and a writer that has done nothing
   pub fresh-new : (numbers : List ℕ) (inside : List TablePass) (made : List (PassOf TablePass))
       → count ≡ cells_in names + 1 → map content made ≡ map recorded inside
-      → map known inside ≡ map (fresh abouts count) numbers
+      → map known inside ≡ map new_pass numbers
       → map writer_of made ≡ map (new_writer names) numbers
   fresh-new [] [] [] c e f = refl
   fresh-new (n ∷ numbers) [] made c e f = absurd (cc)
@@ -118,8 +131,8 @@ module _ (names : List NameShards) (limit : ℕ) (abouts : List CellAbout) (coun
   fresh-new (n ∷ numbers) (q ∷ inside) (p ∷ made) c e f =
       let here : content p ≡ recorded q = cc in
       let rest : map content made ≡ map recorded inside = cc in
-      let knows : known q ≡ fresh abouts count n = cc in
-      let others : map known inside ≡ map (fresh abouts count) numbers = cc in
+      let knows : known q ≡ new_pass n = cc in
+      let others : map known inside ≡ map new_pass numbers = cc in
       let is : writer_of p ≡ new_writer names n =
       ap (λ (t : Option TablePass × List CutMark × List OwnMark). writer_where t.0 t.1 t.2) here
       ∙ ((λ i. writer_in (knows i) [] [])
@@ -139,11 +152,11 @@ looks-same None marks own = refl
 looks-same (Some p) marks own = refl
 
 -- what its looks showed it has seen
-pub since-of : (table : TableId) (cells : List SiteCell) (names : List NameShards) (limit : ℕ)
-    (o : Option TablePass) → IsPassIn table cells (layout_in names limit) o → (cell : ℕ)
+pub since-of : (table : TableId) (key : Opening SiteCell) (names : List NameShards) (limit : ℕ)
+    (o : Option TablePass) → IsPassIn table key (layout_in names limit) o → (cell : ℕ)
     → 0 < slice_index (sight_where o).looks cell
     → AreSeenOf (last_seen (sight_where o) cell) (sight_where o).seen
-since-of table cells names limit o p =
+since-of table key names limit o p =
     let inside = sight_in (known p.inside) in
     subst (λ x. (cell : ℕ) → 0 < slice_index (sight_where x).looks cell
     → AreSeenOf (last_seen (sight_where x) cell) (sight_where x).seen) (sym p.there)

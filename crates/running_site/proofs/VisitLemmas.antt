@@ -4,6 +4,7 @@ use Rattle.std.specs.Prelude.{Option, Some, None}
 use Rattle.tuple_values.specs.declared.names.NameShards.{NameShards}
 use Rattle.atomic_table.specs.Seated.{TableId}
 use Rattle.turn_table.specs.Calls.{known, table_of}
+use Rattle.turn_table.specs.declared.rule.Opening.{Opening}
 use Rattle.site_cells.specs.declared.site_cell.SiteCell.{SiteCell}
 use Rattle.running_site.specs.Passes.{layout_in, IsOpened, IsPassIn, TablePass}
 use Rattle.running_site.specs.Visits.{IsVisit}
@@ -13,14 +14,17 @@ same-pass : (p q : TablePass) → Some p ≡ Some q → p ≡ q
 same-pass p q e = cc
 
 -- a pass that comes has no turn
-pub came-visit : (table : TableId) (cells : List SiteCell) (names : List NameShards) (limit : ℕ)
+pub came-visit : (table : TableId) (key : Opening SiteCell) (names : List NameShards) (limit : ℕ)
     (o : Option TablePass) (p : TablePass) → o ≡ Some p
-    → IsPassIn table cells (layout_in names limit) o
-    → (table_of p ≡ table) × IsVisit names limit (known p) None
-came-visit table cells names limit o p e i =
+    → IsPassIn table key (layout_in names limit) o
+    → (table_of p ≡ table) × ((known p).numbers ≡ key.numbers.value)
+    × IsVisit names limit (known p) None
+came-visit table key names limit o p e i =
     let same : i.inside ≡ p = same-pass i.inside p (sym i.there ∙ e) in
-    subst (λ (q : TablePass). (table_of q ≡ table) × IsVisit names limit (known q) None) same (
+    subst (λ (q : TablePass). (table_of q ≡ table) × ((known q).numbers ≡ key.numbers.value)
+    × IsVisit names limit (known q) None) same (
       i.table_is,
+      i.numbered,
       record {
         knowing = i.knowing;
         idle = λ _. i.free;
@@ -29,15 +33,16 @@ came-visit table cells names limit o p e i =
     )
 
 -- and one with no turn goes
-pub gone-pass : (table : TableId) (cells : List SiteCell) (names : List NameShards) (limit : ℕ)
+pub gone-pass : (table : TableId) (key : Opening SiteCell) (names : List NameShards) (limit : ℕ)
     (o : Option TablePass) (p : TablePass) → o ≡ Some p → table_of p ≡ table
-    → IsOpened names limit cells → IsVisit names limit (known p) None
-    → IsPassIn table cells (layout_in names limit) o
-gone-pass table cells names limit o p e seated opened v = record {
+    → (known p).numbers ≡ key.numbers.value → IsOpened names limit key.cells.value → IsVisit names limit (known p) None
+    → IsPassIn table key (layout_in names limit) o
+gone-pass table key names limit o p e seated numbered opened v = record {
   opened = opened;
   inside = p;
   there = e;
   table_is = seated;
+  numbered = numbered;
   knowing = v.knowing;
   free = v.idle refl;
 }

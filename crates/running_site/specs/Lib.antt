@@ -3,3 +3,4 @@ pub mod Visits
 pub mod Seals
 pub mod Records
 pub mod Ends
+pub mod Alone

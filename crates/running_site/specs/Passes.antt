@@ -1,5 +1,5 @@
 -- What a pass of a site is seen as, and what is true of it between two calls (own).
-use Rattle.std.specs.Prelude.{ℕ, zero, suc, ◌≡◌, ◌<◌, ◌+◌, ◌++◌, ◌∷◌, [], true, List, Option, None, Some, get_or, length, map, replicate, slice_index, take}
+use Rattle.std.specs.Prelude.{ℕ, zero, suc, ◌≡◌, ◌≢◌, ◌<◌, ◌+◌, ◌++◌, ◌∷◌, [], true, All, List, Option, None, Some, get_or, length, map, replicate, slice_index, take}
 use Rattle.std.specs.List.{list_all}
 use Rattle.tuple_values.specs.declared.names.NameShards.{NameShards}
 use Rattle.atomic_table.specs.Seated.{TableId}
@@ -7,7 +7,7 @@ use Rattle.shard_versions.specs.Fitness.{is_fit}
 use Rattle.shard_versions.specs.declared.cut.CutMark.{CutMark}
 use Rattle.shard_versions.specs.declared.cut.OwnMark.{OwnMark}
 use Rattle.exchange_rules.specs.declared.log_entry.LogEntry.{LogEntry}
-use Rattle.exchange_rules.specs.Cells.{Log, history_in}
+use Rattle.exchange_rules.specs.Cells.{Log, author_of, history_in}
 use Rattle.exchange_rules.specs.Following.{Writer}
 use Rattle.exchange_rules.specs.Rows.{Layout}
 use Rattle.site_laws.specs.Looks.{last_seen, Sight}
@@ -16,6 +16,7 @@ use Rattle.turn_table.specs.Calls.{known, table_of}
 use Rattle.turn_table.specs.Knowledge.{IsFree}
 use Rattle.turn_table.specs.declared.knowledge.Known.{Known}
 use Rattle.turn_table.specs.declared.pass.Pass.{Pass}
+use Rattle.turn_table.specs.declared.rule.Opening.{Opening}
 use Rattle.site_cells.specs.Cells.{abouts_of, no_logs}
 use Rattle.site_cells.specs.Values.{about_in, log_of_cell}
 use Rattle.topic_book.specs.Cells.{Place, cells_in, place_of}
@@ -77,11 +78,23 @@ AreSeenFit names seen =
     → list_all (λ e. is_fit place.shards place.shard e.kind) (history_in (get_or seen cell []))
     ≡ true
 
--- a pass that is told which cells there are, and has seen all that its looks showed, and of each
--- shard what belongs there
+-- the number is one of these: not each of them differs from it
+abbrev pub IsListed : List ℕ → ℕ → Type 0
+IsListed numbers n = ¬ All (λ m. m ≢ n) numbers
+
+-- each entry that was seen carries one of these numbers
+abbrev pub AreSeenSigned : List ℕ → List Log → Type 0
+AreSeenSigned numbers seen =
+    (cell : ℕ) → All (λ entry. IsListed numbers (author_of entry)) (get_or seen cell [])
+
+-- a pass that is told which cells there are, all without an entry at the start, and has seen all
+-- that its looks showed, of each shard what belongs there, and no entry but of its table's passes
 pub record IsKnowing (names : List NameShards) (limit : ℕ) (k : Known CellAbout LogEntry)
     : Type 0 where
   pub about : k.about ≡ abouts_of names limit
+  pub begun : k.start ≡ no_logs names
+  pub listed : IsListed k.numbers k.number
+  pub signed : AreSeenSigned k.numbers k.seen
   pub since : (cell : ℕ) → 0 < slice_index k.looks cell
       → WereSeen (last_seen (sight_in k) cell) k.seen
   pub fit : AreSeenFit names k.seen
@@ -91,18 +104,20 @@ pub record IsOpened (names : List NameShards) (limit : ℕ) (cells : List SiteCe
   pub told : map about_in cells ≡ abouts_of names limit
   pub empty : map log_of_cell cells ≡ no_logs names
 
--- the pass was made for this table, which started with these cells, and has no turn
-pub record IsPassIn (table : TableId) (cells : List SiteCell) (l : Layout) (p : Option TablePass)
+-- the pass was made for this table, which started with these cells and numbers of passes, and has
+-- no turn
+pub record IsPassIn (table : TableId) (key : Opening SiteCell) (l : Layout) (p : Option TablePass)
     : Type 0 where
-  pub opened : IsOpened l.names l.limit cells
+  pub opened : IsOpened l.names l.limit key.cells.value
   pub inside : TablePass
   pub there : p ≡ Some inside
   pub table_is : table_of inside ≡ table
+  pub numbered : (known inside).numbers ≡ key.numbers.value
   pub knowing : IsKnowing l.names l.limit (known inside)
   pub free : IsFree (known inside)
 
-abbrev pub IsPassOf : TableId → List SiteCell → Layout → PassOf TablePass → Type 0
-IsPassOf table cells l pass = IsPassIn table cells l pass.pass
+abbrev pub IsPassOf : TableId → Opening SiteCell → Layout → PassOf TablePass → Type 0
+IsPassOf table key l pass = IsPassIn table key l pass.pass
 
 -- the numbers from 1 to the count
 abbrev pub numbers_to : ℕ → List ℕ

@@ -45,10 +45,10 @@ impl SiteOf<SiteCell> {
         collections: &FieldList,
     ) -> Result<Cut, SiteFault>
         requires { IsPassOf self.now.table.board.shared.table_id
-            self.now.table.board.shared.key.cells.value
+            self.now.table.board.shared.key
             (layout_in self.now.names self.now.limit) pass.old }
         ensures own { IsPassOf self.now.table.board.shared.table_id
-            self.now.table.board.shared.key.cells.value
+            self.now.table.board.shared.key
             (layout_in self.now.names self.now.limit) pass.new }
         ensures number { number_of pass.new ≡ number_of pass.old }
         ensures course { Completed (writer_of pass.old) (writer_of pass.new)
@@ -75,12 +75,12 @@ impl SiteOf<SiteCell> {
         commit: bool,
     ) -> Result<u64, SiteFault>
         requires own { IsPassOf self.now.table.board.shared.table_id
-            self.now.table.board.shared.key.cells.value
+            self.now.table.board.shared.key
             (layout_in self.now.names self.now.limit) pass.old }
         requires known { 0 < shards_of self.now.names collection.now }
         requires storable { AreStorableWrites writes }
         ensures own { IsPassOf self.now.table.board.shared.table_id
-            self.now.table.board.shared.key.cells.value
+            self.now.table.board.shared.key
             (layout_in self.now.names self.now.limit) pass.new }
         ensures number { number_of pass.new ≡ number_of pass.old }
         ensures course { Answered (writer_of pass.old) (writer_of pass.new)
@@ -102,10 +102,10 @@ impl SiteOf<SiteCell> {
         collection: &Text,
     ) -> Result<(), SiteFault>
         requires { IsPassOf self.now.table.board.shared.table_id
-            self.now.table.board.shared.key.cells.value
+            self.now.table.board.shared.key
             (layout_in self.now.names self.now.limit) pass.old }
         ensures own { IsPassOf self.now.table.board.shared.table_id
-            self.now.table.board.shared.key.cells.value
+            self.now.table.board.shared.key
             (layout_in self.now.names self.now.limit) pass.new }
         ensures number { number_of pass.new ≡ number_of pass.old }
         ensures course { Answered (writer_of pass.old) (writer_of pass.new)
@@ -129,12 +129,12 @@ impl SiteOf<SiteCell> {
         batch: Batch,
     ) -> Result<Sent, SiteFault>
         requires own { IsPassOf self.now.table.board.shared.table_id
-            self.now.table.board.shared.key.cells.value
+            self.now.table.board.shared.key
             (layout_in self.now.names self.now.limit) pass.old }
         requires true_items { MaySend self.now.names (writer_of pass.old).seen dest.now src.now
             batch }
         ensures own { IsPassOf self.now.table.board.shared.table_id
-            self.now.table.board.shared.key.cells.value
+            self.now.table.board.shared.key
             (layout_in self.now.names self.now.limit) pass.new }
         ensures number { number_of pass.new ≡ number_of pass.old }
         ensures course { Answered (writer_of pass.old) (writer_of pass.new)
@@ -155,10 +155,10 @@ impl SiteOf<SiteCell> {
         key: &TopicKey,
     ) -> Result<Option<Versions>, SiteFault>
         requires { IsPassOf self.now.table.board.shared.table_id
-            self.now.table.board.shared.key.cells.value
+            self.now.table.board.shared.key
             (layout_in self.now.names self.now.limit) pass.old }
         ensures own { IsPassOf self.now.table.board.shared.table_id
-            self.now.table.board.shared.key.cells.value
+            self.now.table.board.shared.key
             (layout_in self.now.names self.now.limit) pass.new }
         ensures number { number_of pass.new ≡ number_of pass.old }
         ensures course { Completed (writer_of pass.old) (writer_of pass.new)
@@ -181,12 +181,12 @@ impl SiteOf<SiteCell> {
         binding: Binding,
     ) -> Result<Versions, SiteFault>
         requires own { IsPassOf self.now.table.board.shared.table_id
-            self.now.table.board.shared.key.cells.value
+            self.now.table.board.shared.key
             (layout_in self.now.names self.now.limit) pass.old }
         requires on { IsOnCollections self.now.names key.now binding }
         requires readable { IsReadable binding.q }
         ensures own { IsPassOf self.now.table.board.shared.table_id
-            self.now.table.board.shared.key.cells.value
+            self.now.table.board.shared.key
             (layout_in self.now.names self.now.limit) pass.new }
         ensures number { number_of pass.new ≡ number_of pass.old }
         ensures course { Answered (writer_of pass.old) (writer_of pass.new)
@@ -208,12 +208,12 @@ impl SiteOf<SiteCell> {
         upto: Versions,
     ) -> Result<(), SiteFault>
         requires own { IsPassOf self.now.table.board.shared.table_id
-            self.now.table.board.shared.key.cells.value
+            self.now.table.board.shared.key
             (layout_in self.now.names self.now.limit) pass.old }
         requires delivered { MayStore self.now.names
             (histories_in self.now.names (writer_of pass.old).seen) key.now upto }
         ensures own { IsPassOf self.now.table.board.shared.table_id
-            self.now.table.board.shared.key.cells.value
+            self.now.table.board.shared.key
             (layout_in self.now.names self.now.limit) pass.new }
         ensures number { number_of pass.new ≡ number_of pass.old }
         ensures course { Answered (writer_of pass.old) (writer_of pass.new)

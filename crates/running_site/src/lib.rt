@@ -15,7 +15,7 @@ mod visiting;
 mod writing;
 
 pub use exchange_rules::{Batch, BatchItem, LogEntry, Sent, SiteFault};
-pub use law::passes_have_one_end;
+pub use law::{a_lone_pass_sees_its_own, passes_have_one_end};
 pub use once_core::Histories;
 pub use pass::{Pass, PassOf, Passes};
 pub use shard_versions::{Cut, CutMark, CutMarks, CutPart, OwnMark, OwnMarks, Record};

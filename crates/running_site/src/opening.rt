@@ -34,7 +34,7 @@ impl SiteOf<SiteCell> {
         ensures site { IfOk result (λ made. (made.0.names ≡ names) × (made.0.limit ≡ limit)
             × (made.0.passes ≡ passes)) }
         ensures own { IfOk result (λ made. All (IsPassOf made.0.table.board.shared.table_id
-            made.0.table.board.shared.key.cells.value (layout_in made.0.names made.0.limit)) made.1) }
+            made.0.table.board.shared.key (layout_in made.0.names made.0.limit)) made.1) }
         ensures new { IfOk result (λ made. map writer_of made.1
             ≡ map (new_writer names) (numbers_to passes)) }
     {
@@ -57,7 +57,7 @@ impl SiteOf<SiteCell> {
     /// Ends the site, and gives its histories. It takes all passes that were made for it.
     pub fn close(self, alloc: Global, passes: Passes) -> Result<Histories, Memory>
         requires own { All (IsPassOf self.table.board.shared.table_id
-            self.table.board.shared.key.cells.value
+            self.table.board.shared.key
             (layout_in self.names self.limit)) passes }
         requires all { All (λ number. Contains (map number_of passes) number)
             (numbers_to self.passes) }

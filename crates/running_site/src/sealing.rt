@@ -59,6 +59,7 @@ fn seal_ready(
         sealing }
     ensures seated { table_of pass.new ≡ table_of pass.old }
     ensures visit { IsVisit site.now.names site.now.limit (known pass.new) (Some turn.new) }
+    ensures numbers { (known pass.new).numbers ≡ (known pass.old).numbers }
     ensures cell { turn.new.cell ≡ cell }
     ensures sealed { IsSealed (known pass.old) (known pass.new) own.old.items own.new.items cell
         sealing }
@@ -86,6 +87,7 @@ pub(crate) fn seal_in(
         sealing }
     ensures seated { table_of pass.new ≡ table_of pass.old }
     ensures visit { IsVisit site.now.names site.now.limit (known pass.new) (Some turn.new) }
+    ensures numbers { (known pass.new).numbers ≡ (known pass.old).numbers }
     ensures cell { turn.new.cell ≡ cell }
     ensures ok { OnOk result (IsSealed (known pass.old) (known pass.new) own.old.items own.new.items
         cell sealing) }

@@ -23,6 +23,7 @@ pub struct Visit<'a, R> {
     pub(crate) marks: Vec<CutMark>,
     pub(crate) own: Vec<OwnMark>,
     ghost seated: { table_of pass ≡ site.now.table.board.shared.table_id },
+    ghost numbered: { (known pass).numbers ≡ site.now.table.board.shared.key.numbers.value },
     ghost opened: { IsOpened site.now.names site.now.limit site.now.table.board.shared.key.cells.value },
     ghost visit: { IsVisit site.now.names site.now.limit (known pass) turn },
 }

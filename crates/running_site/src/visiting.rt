@@ -13,7 +13,7 @@ impl SiteOf<SiteCell> {
     /// its holder until the visit ends, and no call of the site takes it before.
     pub fn visit<'a, R>(&'a self, rt: &'a R, pass: &mut Pass) -> Visit<'a, R>
         requires { IsPassOf self.now.table.board.shared.table_id
-            self.now.table.board.shared.key.cells.value
+            self.now.table.board.shared.key
             (layout_in self.now.names self.now.limit) pass.old }
         ensures site { result.site.now ≡ self.now }
         ensures free { result.turn ≡ None }
@@ -45,7 +45,7 @@ impl<R> Visit<'_, R> {
     pub fn end(self, pass: &mut Pass)
         requires { self.turn ≡ None }
         ensures own { IsPassOf self.entry.site.now.table.board.shared.table_id
-            self.entry.site.now.table.board.shared.key.cells.value
+            self.entry.site.now.table.board.shared.key
             (layout_in self.entry.site.now.names self.entry.site.now.limit) pass.new }
         ensures writer { writer_of pass.new ≡ writer_in (known self.entry.pass)
             self.entry.marks.items self.entry.own.items }

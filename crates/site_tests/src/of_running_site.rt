@@ -17,7 +17,7 @@ use tuple_values::{Memory, Text};
 fn alone(alloc: Global, shards: u16, limit: u64) -> Result<(Site, Pass), Fail>
     requires { limit ≤ 268435456 }
     ensures own { IfOk result (λ made. IsPassOf made.0.table.board.shared.table_id
-        made.0.table.board.shared.key.cells.value
+        made.0.table.board.shared.key
         (layout_in made.0.names made.0.limit) made.1) }
     ensures number { IfOk result (λ made. number_of made.1 ≡ 1) }
     ensures passes { IfOk result (λ made. made.0.passes ≡ 1) }
@@ -39,10 +39,10 @@ fn update<R: Wait>(
     id: &str,
 ) -> Result<Option<Result<u64, SiteFault>>, Memory>
     requires { IsPassOf site.now.table.board.shared.table_id
-        site.now.table.board.shared.key.cells.value
+        site.now.table.board.shared.key
         (layout_in site.now.names site.now.limit) pass.old }
     ensures own { IsPassOf site.now.table.board.shared.table_id
-        site.now.table.board.shared.key.cells.value
+        site.now.table.board.shared.key
         (layout_in site.now.names site.now.limit) pass.new }
     ensures number { number_of pass.new ≡ number_of pass.old }
 {
@@ -57,10 +57,10 @@ fn update<R: Wait>(
 // Whether a document is taken, and the next one finds the shard full.
 fn fills<R: Wait>(rt: &R, alloc: Global, site: &Site, pass: &mut Pass) -> Result<bool, Memory>
     requires { IsPassOf site.now.table.board.shared.table_id
-        site.now.table.board.shared.key.cells.value
+        site.now.table.board.shared.key
         (layout_in site.now.names site.now.limit) pass.old }
     ensures own { IsPassOf site.now.table.board.shared.table_id
-        site.now.table.board.shared.key.cells.value
+        site.now.table.board.shared.key
         (layout_in site.now.names site.now.limit) pass.new }
     ensures number { number_of pass.new ≡ number_of pass.old }
 {
@@ -85,7 +85,7 @@ fn entries_by(history: Option<&Step>, number: u64) -> usize {
 // Ends a site; how many entries the pass left in the first shard.
 fn entries_left(alloc: Global, site: Site, pass: Pass) -> Result<usize, Memory>
     requires own { IsPassOf site.table.board.shared.table_id
-        site.table.board.shared.key.cells.value (layout_in site.names site.limit) pass }
+        site.table.board.shared.key (layout_in site.names site.limit) pass }
     requires number { number_of pass ≡ 1 }
     requires passes { site.passes ≡ 1 }
 {
@@ -107,10 +107,10 @@ fn a_full_shard_stays_as_it_was(rt: HostRuntime) -> Result<(), Fail> {
 
 fn cut_len<R: Wait>(rt: &R, alloc: Global, site: &Site, pass: &mut Pass) -> Result<usize, Fail>
     requires { IsPassOf site.now.table.board.shared.table_id
-        site.now.table.board.shared.key.cells.value
+        site.now.table.board.shared.key
         (layout_in site.now.names site.now.limit) pass.old }
     ensures own { IsPassOf site.now.table.board.shared.table_id
-        site.now.table.board.shared.key.cells.value
+        site.now.table.board.shared.key
         (layout_in site.now.names site.now.limit) pass.new }
 {
     let collections = collections(alloc)?;
@@ -125,7 +125,7 @@ fn is_committed<R: Wait>(
     pass: &mut Pass,
 ) -> Result<bool, Memory>
     requires { IsPassOf site.now.table.board.shared.table_id
-        site.now.table.board.shared.key.cells.value
+        site.now.table.board.shared.key
         (layout_in site.now.names site.now.limit) pass.old }
 {
     let collection = Text::of(alloc, "c")?;
@@ -134,7 +134,7 @@ fn is_committed<R: Wait>(
 
 fn is_cut<R: Wait>(rt: &R, alloc: Global, site: &Site, pass: &mut Pass) -> Result<bool, Fail>
     requires { IsPassOf site.now.table.board.shared.table_id
-        site.now.table.board.shared.key.cells.value
+        site.now.table.board.shared.key
         (layout_in site.now.names site.now.limit) pass.old }
 {
     let counted = is_count(update(rt, alloc, site, pass, "2")?, 1);

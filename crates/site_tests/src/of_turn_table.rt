@@ -5,20 +5,29 @@ ghost use Rattle.turn_table.specs.Calls.{known, table_of};
 ghost use Rattle.turn_table.specs.Knowledge.{fresh, IsFree};
 
 use std::alloc::{AllocError, Global};
+use std::marker::Model;
 use std::sync::Wait;
 use std::test::Fail;
 use std::thread::{Threads, join};
 use tuple_values::{Memory, Numbers, Sequence};
 use turn_table::{CellState, Pass, TurnTable, law_between_steps};
 
-/// Amounts, each with the number of the pass that added it.
+/// Amounts, each with the number of the pass that added it. A contract sees them and for how many there is room.
 #[derive(Drop)]
 struct Tally {
     entries: Vec<(u64, u64)>,
 }
 
+impl Model for Tally {
+    ghost use Rattle.std.specs.Prelude.{List, ℕ, vec_capacity};
+
+    ghost Value = { List (ℕ × ℕ) × ℕ };
+
+    ghost view = { λ t. (t.entries.items, vec_capacity t.entries) };
+}
+
 impl CellState for Tally {
-    ghost use Rattle.std.specs.Prelude.{◌<◌, [], ◌∷◌, vec_len, vec_capacity};
+    ghost use Rattle.std.specs.Prelude.{◌<◌, [], ◌∷◌, length};
     ghost use Rattle.std.proofs.Common.{refl};
     ghost use Rattle.std.proofs.lemmas.List.Elements.{All-cons, All-nil};
     ghost use Rattle.site_tests.specs.Tallies.{IsBehind, IsCovered, MayAdd, behind_kept, covered_at_look, covered_later, signed_one};
@@ -33,11 +42,11 @@ impl CellState for Tally {
 
     ghost about = { λ _. 0 };
 
-    ghost history = { λ tally. tally.entries.items };
+    ghost history = { λ tally. tally.0 };
 
     ghost can_reserve = { λ tally amount. Unit {0} };
 
-    ghost room = { λ tally by amount. vec_len tally.entries < vec_capacity tally.entries };
+    ghost room = { λ tally by amount. length tally.0 < tally.1 };
 
     ghost takes = { λ tally amount. Unit {0} };
 
@@ -81,7 +90,7 @@ impl CellState for Tally {
 
 impl Tally {
     fn empty(alloc: Global) -> Tally
-        ensures { result.entries.items ≡ [] }
+        ensures { result.0 ≡ [] }
     {
         Tally {
             entries: Vec::new(alloc),
@@ -97,8 +106,9 @@ fn two_cells(alloc: Global) -> Result<(TurnTable<Tally>, TallyPass, TallyPass), 
     ensures numbers { IfOk result (λ made. made.0.board.shared.key.numbers.value ≡ 1 ∷ 2 ∷ []) }
     ensures own { IfOk result (λ made. (table_of made.1 ≡ made.0.board.shared.table_id)
         × (table_of made.2 ≡ made.0.board.shared.table_id)) }
-    ensures known { IfOk result (λ made. (known made.1 ≡ fresh (0 ∷ 0 ∷ []) 2 1)
-        × (known made.2 ≡ fresh (0 ∷ 0 ∷ []) 2 2)) }
+    ensures known { IfOk result (λ made.
+        (known made.1 ≡ fresh (0 ∷ 0 ∷ []) ([] ∷ [] ∷ []) (1 ∷ 2 ∷ []) 2 1)
+        × (known made.2 ≡ fresh (0 ∷ 0 ∷ []) ([] ∷ [] ∷ []) (1 ∷ 2 ∷ []) 2 2)) }
 {
     let mut cells = Sequence::new(alloc);
     cells.push(Tally::empty(alloc))?;

@@ -20,7 +20,7 @@ number_in worker = number_of worker.pass
 
 -- the pass was made for this site, and has no turn
 abbrev pub IsAt : {A B C D : Type 0} → SiteOf SiteCell A B C D → PassOf TablePass → Type 0
-IsAt site pass = IsPassOf site.table.board.shared.table_id site.table.board.shared.key.cells.value
+IsAt site pass = IsPassOf site.table.board.shared.table_id site.table.board.shared.key
     (layout_in site.names site.limit) pass
 
 -- so was the pass of this worker

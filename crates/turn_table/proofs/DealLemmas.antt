@@ -58,12 +58,14 @@ cell_keeps about history abouts histories words homes views later c held ok = re
 -- the same pass at another seat
 pub reseat : {A E : Type 0} (writer : E → ℕ)
     (tells : List A → ℕ → List (List E) → List (List E) → Type 0) (abouts : List A)
-    (numbers : List ℕ) (histories : List (List E)) (owner owner' holder : ℕ → ℕ)
+    (start : List (List E)) (numbers : List ℕ) (histories : List (List E)) (owner owner' holder : ℕ → ℕ)
     (words : List ℕ) (j j' : ℕ) (x : Known A E) → owner' x.number ≡ j'
-    → IsPass writer tells abouts numbers histories owner holder words j x
-    → IsPass writer tells abouts numbers histories owner' holder words j' x
-reseat writer tells abouts numbers histories owner owner' holder words j j' x mine ok = record {
+    → IsPass writer tells abouts start numbers histories owner holder words j x
+    → IsPass writer tells abouts start numbers histories owner' holder words j' x
+reseat writer tells abouts start numbers histories owner owner' holder words j j' x mine ok = record {
   about_is = ok.about_is;
+  start_is = ok.start_is;
+  numbers_are = ok.numbers_are;
   listed = ok.listed;
   mine = mine;
   seen = ok.seen;
@@ -129,13 +131,13 @@ module _ {C A E : Type 0} (about : C → A) (history : C → List E) (writer : E
               (λ (u : Mine j v).
               let here = of_dealt ks v i x u.1 at_i in
               let ok = r.each_pass id (suc i) (dealt (k ∷ ks)) x at_id here in
-              reseat writer tells abouts numbers r.histories r.owner owner' r.holder s.words
+              reseat writer tells abouts start numbers r.histories r.owner owner' r.holder s.words
               id j x (put_else r.owner k.number n x.number
               (λ e. let same = r.apart id (suc i) 0 (dealt (k ∷ ks)) x k at_id here refl e
               in absurd (omega arith)) ∙ (ok.mine ∙ sym u.0)) ok)
               (λ (u : Other j v).
               let ok = r.each_pass j i v x u.1 at_i in
-              reseat writer tells abouts numbers r.histories r.owner owner' r.holder s.words
+              reseat writer tells abouts start numbers r.histories r.owner owner' r.holder s.words
               j j x (put_else r.owner k.number n x.number
               (λ e. u.0 (sym ok.mine ∙ (ap r.owner e ∙ first.mine))) ∙ ok.mine) ok)
               (at_set s.views id j (dealt ks) v t.1))
@@ -144,9 +146,9 @@ module _ {C A E : Type 0} (about : C → A) (history : C → List E) (writer : E
               let one = only k x i (subst (λ (l : W). get_elem? (passes_of l) i ≡ some x)
               (sym o.1) at_i) in
               let at_n : n ≡ j = omega arith in
-              subst (λ (z : ℕ × K). IsPass writer tells abouts numbers r.histories owner'
+              subst (λ (z : ℕ × K). IsPass writer tells abouts start numbers r.histories owner'
               r.holder s.words z.0 z.1) (λ m. (at_n m, one.1 m))
-              (reseat writer tells abouts numbers r.histories r.owner owner' r.holder s.words
+              (reseat writer tells abouts start numbers r.histories r.owner owner' r.holder s.words
               id n k (put_here r.owner k.number n) first))
               (split_at left (lone k ∷ []) j v at_j);
           apart = λ j i i' v x x' at_j at_i at_i' e. ⊎_elim

@@ -89,21 +89,21 @@ module _ {C A E : Type 0} (about : C → A) (history : C → List E) (writer : E
         each_pass = λ j i l x at_j at_i. ⊎_elim
             (λ (t : Spent j l). absurd (some-ne-none x (sym (subst (P i x) (sym t.1) at_i))))
             (λ (t : InMid j l). ⊎_elim
-            (λ (u : Mine j l). subst (λ (n : ℕ). IsPass writer tells abouts numbers
+            (λ (u : Mine j l). subst (λ (n : ℕ). IsPass writer tells abouts start numbers
             r.histories owner' r.holder s.words n x) (sym u.0) (⊎_elim
             (λ (z : InFirst i x).
             let ok = r.each_pass id i v x at_id z.1 in
-            reseat writer tells abouts numbers r.histories r.owner owner' r.holder s.words
+            reseat writer tells abouts start numbers r.histories r.owner owner' r.holder s.words
             id id x (sends_else id other r.owner x.number
             (λ e. apart' (sym ok.mine ∙ e)) ∙ ok.mine) ok)
             (λ (z : InSecond i x).
             let ok = r.each_pass other z.0 w x at_other z.2 in
-            reseat writer tells abouts numbers r.histories r.owner owner' r.holder s.words
+            reseat writer tells abouts start numbers r.histories r.owner owner' r.holder s.words
             other id x (sends_here id other r.owner x.number ok.mine) ok)
             (split_at (passes_of v) (passes_of w) i x (of_dealt b l i x u.1 at_i))))
             (λ (u : Other j l).
             let ok = r.each_pass j i l x u.1 at_i in
-            reseat writer tells abouts numbers r.histories r.owner owner' r.holder s.words
+            reseat writer tells abouts start numbers r.histories r.owner owner' r.holder s.words
             j j x (sends_else id other r.owner x.number (λ e. t.0 (sym ok.mine ∙ e))
             ∙ ok.mine) ok)
             (at_set s.views id j vw l t.1))

@@ -78,6 +78,8 @@ module _ {C A E : Type 0} (about : C → A) (history : C → List E) (writer : E
         (r.each_cell e l)))
         (λ j x apart ok. record {
           about_is = ok.about_is;
+          start_is = ok.start_is;
+          numbers_are = ok.numbers_are;
           listed = ok.listed;
           mine = ok.mine;
           seen = ok.seen;
@@ -90,6 +92,8 @@ module _ {C A E : Type 0} (about : C → A) (history : C → List E) (writer : E
         })
         record {
           about_is = mine.about_is;
+          start_is = mine.start_is;
+          numbers_are = mine.numbers_are;
           listed = mine.listed;
           mine = mine.mine;
           seen = mine.seen;

@@ -12,3 +12,4 @@ pub mod GatherLemmas
 pub mod CloseLemmas
 pub mod StartLemmas
 pub mod MomentLemmas
+pub mod AloneLemmas

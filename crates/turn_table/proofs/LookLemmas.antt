@@ -7,7 +7,8 @@ use Rattle.std.proofs.lemmas.List.{set-get_or}
 use Rattle.atomic_table.specs.Table.{Allows, Me, State, keeps, step}
 use Rattle.turn_table.specs.declared.knowledge.Known.{Known}
 use Rattle.turn_table.specs.declared.knowledge.View.{View}
-use Rattle.turn_table.specs.Histories.{at, ArePrefixes, GrewBy}
+use Rattle.std.specs.Prelude.{Contains}
+use Rattle.turn_table.specs.Histories.{at, Adds, ArePrefixes, GrewBy}
 use Rattle.turn_table.specs.Knowledge.{asof, hand, lone, looked, IsWide}
 use Rattle.turn_table.specs.Rule.{Kept}
 use Rattle.turn_table.specs.Steps.{AddsOthers, Glimpse, Sees}
@@ -60,13 +61,36 @@ module _ {C A E : Type 0} (about : C → A) (history : C → List E) (writer : E
   abbrev Rule : St → Type 0
   Rule = Kept about history writer law tells abouts start numbers
 
+  -- what a state of the pass's table shows to it
+  glimpse_of : (k : K) (s : St) (r : Rule s) → k.about ≡ abouts → k.start ≡ start
+      → k.numbers ≡ numbers → (c : ℕ) → ArePrefixes k.seen r.histories
+      → at k.seen c ≡ at r.histories c
+      → ((e : ℕ) → 0 < get_or k.looks e 0 → tells abouts e (asof k e) r.histories)
+      → ((e : ℕ) → 0 < get_or k.looks e 0 → ArePrefixes (asof k e) k.seen)
+      → Glimpse about history writer law tells c k
+  glimpse_of k s r about_is start_is numbers_are c seen whole told since =
+      subst (λ (z : List A × (List (List E) × List ℕ)).
+      (q : Kept about history writer law tells z.0 z.1.0 z.1.1 s)
+      → ArePrefixes k.seen q.histories → at k.seen c ≡ at q.histories c
+      → ((e : ℕ) → 0 < get_or k.looks e 0 → tells z.0 e (asof k e) q.histories)
+      → Glimpse about history writer law tells c k)
+      (λ n. (about_is n, (start_is n, numbers_are n)))
+      (λ q within is told. record {
+        state = s;
+        kept = q;
+        seen = within;
+        whole = is;
+        told = told;
+        since = since;
+      }) r seen whole told
+
   module _ (slots id : ℕ) (me : Me (Option C) (View A E)) (k : K) (is : me.0 ≡ lone k) (c : ℕ)
       (room : c < slots) (entries : List E) (held : hand k c ≡ Some entries)
       (looks_law : (b : List A) (histories seen : List (List E)) (d : ℕ) → law b histories
       → ArePrefixes seen histories → d < length histories → at seen d ≡ at histories d
       → tells b d seen histories) where
     pub sees : Allows Rule slots id me (2 * c + 2) (λ n. n)
-        (Sees writer law tells (step slots (2 * c + 2) 0 0 none) me)
+        (Sees about history writer law tells (step slots (2 * c + 2) 0 0 none) me)
     sees s r deep at_id fits =
         let i : ℕ = 2 * c + 2 in let here = at_id ∙ ap some is in let d = r.deep in
         let low : c < length r.histories = omega arith in
@@ -78,33 +102,30 @@ module _ {C A E : Type 0} (about : C → A) (history : C → List E) (writer : E
         r.histories c entries (omega arith) whole (λ _ _. refl) mine.seen in
         let within = prefixes_of_grown Others k'.seen r.histories seen in
         let new = mine.seen c in
-        let adds : AddsOthers writer k c entries = (new.0, sym whole ∙ new.1, new.2) in
+        let behind = r.grown c in
+        let adds : AddsOthers writer k c entries = (
+          (new.0, sym whole ∙ new.1, new.2),
+          subst (λ (z : List (List E) × List ℕ).
+              Adds (λ entry. Contains z.1 (writer entry)) (at z.0 c) entries)
+              (λ n. (sym mine.start_is n, sym mine.numbers_are n))
+              (behind.0, sym whole ∙ behind.1, behind.2),
+        ) in
         let seen_is : at k'.seen c ≡ at r.histories c =
         seen-here k c entries (length r.histories) mine.wide low ∙ sym whole in
         let grown : ArePrefixes k.seen k'.seen =
-        prefixes-seen k.seen c entries (omega arith) (adds.0, adds.1) in
+        prefixes-seen k.seen c entries (omega arith) (adds.0.0, adds.0.1) in
         let told = each_look k c entries (length r.histories) mine.wide low
         (λ e seen. tells abouts e seen r.histories)
         (looks_law abouts r.histories k'.seen c r.lawful within low seen_is) mine.told in
         let since = each_look k c entries (length r.histories) mine.wide low
         (λ e seen. ArePrefixes seen k'.seen) (prefixes-self k'.seen)
         (λ e pos. prefixes-on (asof k e) k.seen k'.seen (mine.since e pos) grown) in
-        let glimpse : Glimpse law tells c k' = subst (λ (b : List A). (x : law b r.histories)
-        × ((e : ℕ) → 0 < get_or k'.looks e 0 → tells b e (asof k' e) r.histories)
-        → Glimpse law tells c k')
-        mine.about_is
-        (λ t. record {
-          histories = r.histories;
-          lawful = t.0;
-          seen = within;
-          whole = seen_is;
-          told = t.1;
-          since = since;
-        }) (r.lawful, told) in
+        let glimpse = glimpse_of k' s r mine.about_is mine.start_is mine.numbers_are c within
+        seen_is told since in
         let after : K → Me (Option C) (View A E) = λ x. (lone x, me.1) in
         let T : ℕ × (K × List E) → Type 0 = λ z. (after k' ≡ after (looked z.0 z.1.1 z.1.0))
         × (get_or s.words i 0 ≡ length z.1.1) × AddsOthers writer z.1.0 z.0 z.1.1
-        × Glimpse law tells z.0 (looked z.0 z.1.1 z.1.0) in
+        × Glimpse about history writer law tells z.0 (looked z.0 z.1.1 z.1.0) in
         let done : T (c, (k, entries)) = (refl, cell.long ∙ ap length whole, adds, glimpse) in (
           lone k',
           keeps,
@@ -123,6 +144,8 @@ module _ {C A E : Type 0} (about : C → A) (history : C → List E) (writer : E
               (λ j x apart ok. ok)
               record {
                 about_is = mine.about_is;
+                start_is = mine.start_is;
+                numbers_are = mine.numbers_are;
                 listed = mine.listed;
                 mine = mine.mine;
                 seen = seen;

@@ -106,7 +106,7 @@ module _ {C A E : Type 0} (about : C → A) (history : C → List E) (writer : E
   Rule = Kept about history writer law tells abouts start numbers
 
   abbrev Ok : List (List E) → (ℕ → ℕ) → (ℕ → ℕ) → List ℕ → ℕ → K → Type 0
-  Ok = IsPass writer tells abouts numbers
+  Ok = IsPass writer tells abouts start numbers
 
   -- the pass k, alone in its seat, becomes k'
   pub moves : (s : St) (r : Rule s) (seat : ℕ) (k k' : K) (words' : List ℕ)

@@ -72,11 +72,13 @@ module _ {C A E : Type 0} (about : C → A) (history : C → List E) (writer : E
           get_or-set_other s.words (2 * c + 2) (2 * e + 1) n' 0 (λ z. omega arith)
 
       others : (j : ℕ) (x : K) → x.number ≢ k.number
-          → IsPass writer tells abouts numbers r.histories r.owner r.holder s.words j x
-          → IsPass writer tells abouts numbers later r.owner r.holder words' j x
+          → IsPass writer tells abouts start numbers r.histories r.owner r.holder s.words j x
+          → IsPass writer tells abouts start numbers later r.owner r.holder words' j x
       others j x apart ok = let was = (r.each_pass id 0 (lone k) k here refl).hands c old held in
           record {
             about_is = ok.about_is;
+            start_is = ok.start_is;
+            numbers_are = ok.numbers_are;
             listed = ok.listed;
             mine = ok.mine;
             seen = grown-on (λ entry. writer entry ≢ x.number) x.seen r.histories later ok.seen
@@ -141,6 +143,8 @@ module _ {C A E : Type 0} (about : C → A) (history : C → List E) (writer : E
           others
           record {
             about_is = mine.about_is;
+            start_is = mine.start_is;
+            numbers_are = mine.numbers_are;
             listed = mine.listed;
             mine = mine.mine;
             seen = grown-seen Others k.seen r.histories later c (history y) (omega arith)

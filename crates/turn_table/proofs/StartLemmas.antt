@@ -91,12 +91,12 @@ module _ {C A E : Type 0} (about : C → A) (history : C → List E) (writer : E
   at_home (x ∷ xs) zero h = (x, refl, refl, refl)
   at_home (x ∷ xs) (suc c) h = at_home xs c (omega arith)
 
-  numbered : (a : List A) (n : ℕ) (numbers : List ℕ) (i : ℕ) (k : K)
-      → get_elem? (map (fresh a n) numbers) i ≡ some k
-      → (m : ℕ) × (get_elem? numbers i ≡ some m) × (fresh a n m ≡ k)
-  numbered a n [] i k e = absurd (some-ne-none k (sym e))
-  numbered a n (x ∷ xs) zero k e = (x, refl, some-injective (fresh a n x) k e)
-  numbered a n (x ∷ xs) (suc i) k e = numbered a n xs i k e
+  numbered : (made : ℕ → K) (numbers : List ℕ) (i : ℕ) (k : K)
+      → get_elem? (map made numbers) i ≡ some k
+      → (m : ℕ) × (get_elem? numbers i ≡ some m) × (made m ≡ k)
+  numbered made [] i k e = absurd (some-ne-none k (sym e))
+  numbered made (x ∷ xs) zero k e = (x, refl, some-injective (made x) k e)
+  numbered made (x ∷ xs) (suc i) k e = numbered made xs i k e
 
   each_entry : (P : E → Type 0) (cells : List C) (c : ℕ)
       → All (λ cell. All P (history cell)) cells → All P (at (map history cells) c)
@@ -122,8 +122,11 @@ module _ {C A E : Type 0} (about : C → A) (history : C → List E) (writer : E
       abbrev count : ℕ
       count = length cells
 
+      abbrev new_pass : ℕ → K
+      new_pass = fresh abouts histories numbers count
+
       abbrev first : View A E
-      first = dealt (map (fresh abouts count) numbers)
+      first = dealt (map new_pass numbers)
 
       fresh_seen : (m : ℕ) → Contains numbers m
           → GrewBy (λ entry. writer entry ≢ m) (replicate count []) histories
@@ -138,7 +141,7 @@ module _ {C A E : Type 0} (about : C → A) (history : C → List E) (writer : E
       wide : length histories ≡ count
       wide = length-map cells history
 
-      fresh_wide : (m : ℕ) → IsWide (fresh {E = E} abouts count m) (length histories)
+      fresh_wide : (m : ℕ) → IsWide (new_pass m) (length histories)
       fresh_wide m = record {
         seen = length-replicate count [] ∙ sym wide;
         hand = length-replicate count None ∙ sym wide;
@@ -147,15 +150,17 @@ module _ {C A E : Type 0} (about : C → A) (history : C → List E) (writer : E
         asof = length-replicate count [] ∙ sym wide;
       }
 
-      fresh_pass : (i m : ℕ) → get_elem? numbers i ≡ some m → IsPass writer tells abouts numbers
-          histories (λ _. 0) (λ _. 0) (0 ∷ words_of histories) 0 (fresh abouts count m)
+      fresh_pass : (i m : ℕ) → get_elem? numbers i ≡ some m → IsPass writer tells abouts histories numbers
+          histories (λ _. 0) (λ _. 0) (0 ∷ words_of histories) 0 (new_pass m)
       fresh_pass i m e = record {
         about_is = refl;
+        start_is = refl;
+        numbers_are = refl;
         listed = found_at numbers i m e;
         mine = refl;
         seen = fresh_seen m (found_at numbers i m e);
         hands = λ c h z.
-            let none : hand (fresh {E = E} abouts count m) c ≡ None =
+            let none : hand (new_pass m) c ≡ None =
             get_or-replicate count c None in absurd (cc (none, z));
         told = λ c pos. absurd (none_looked count c pos);
         since = λ c pos. absurd (none_looked count c pos);
@@ -165,11 +170,11 @@ module _ {C A E : Type 0} (about : C → A) (history : C → List E) (writer : E
       -- a pass of the first seat
       of_first : (j i : ℕ) (w : View A E) (k : K) → get_elem? (first ∷ []) j ≡ some w
           → get_elem? (passes_of w) i ≡ some k
-          → (j ≡ 0) × (m : ℕ) × (get_elem? numbers i ≡ some m) × (fresh abouts count m ≡ k)
+          → (j ≡ 0) × (m : ℕ) × (get_elem? numbers i ≡ some m) × (new_pass m ≡ k)
       of_first j i w k at_j at_i =
           let o = only first w j at_j in
-          let n = numbered abouts count numbers i k
-          (of_dealt (map (fresh abouts count) numbers) w i k o.1 at_i) in
+          let n = numbered new_pass numbers i k
+          (of_dealt (map new_pass numbers) w i k o.1 at_i) in
           (o.0, n.0, n.1, n.2)
 
       pub opens : Kept about history writer law tells abouts histories numbers
@@ -193,7 +198,7 @@ module _ {C A E : Type 0} (about : C → A) (history : C → List E) (writer : E
           );
         };
         each_pass = λ j i w k at_j at_i. let f = of_first j i w k at_j at_i in
-            subst (λ (z : ℕ × K). IsPass writer tells abouts numbers histories (λ _. 0) (λ _. 0)
+            subst (λ (z : ℕ × K). IsPass writer tells abouts histories numbers histories (λ _. 0) (λ _. 0)
             (0 ∷ words_of histories) z.0 z.1) (λ m. (sym f.0 m, f.3 m))
             (fresh_pass i f.1 f.2);
         apart = λ j i i' w k k' at_j at_i at_i' e.
@@ -204,11 +209,11 @@ module _ {C A E : Type 0} (about : C → A) (history : C → List E) (writer : E
         all_found = λ m listed. let p = place_of numbers m listed in record {
           view = first;
           place = p.0;
-          pass = fresh abouts count m;
+          pass = new_pass m;
           seated = refl;
-          placed = subst (λ (l : List K). get_elem? l p.0 ≡ some (fresh abouts count m))
-              (sym (passes_of-dealt (map (fresh abouts count) numbers)))
-              (at_map (fresh abouts count) numbers p.0 m p.1);
+          placed = subst (λ (l : List K). get_elem? l p.0 ≡ some (new_pass m))
+              (sym (passes_of-dealt (map new_pass numbers)))
+              (at_map new_pass numbers p.0 m p.1);
           named = refl;
         };
         counted = refl;

@@ -73,6 +73,8 @@ module _ {C A E : Type 0} (about : C → A) (history : C → List E) (writer : E
               (kept_length e) (set_else s.homes c e none other) refl (r.each_cell e l)))
               (λ j x apart ok. record {
                 about_is = ok.about_is;
+                start_is = ok.start_is;
+                numbers_are = ok.numbers_are;
                 listed = ok.listed;
                 mine = ok.mine;
                 seen = ok.seen;
@@ -91,6 +93,8 @@ module _ {C A E : Type 0} (about : C → A) (history : C → List E) (writer : E
               })
               record {
                 about_is = mine.about_is;
+                start_is = mine.start_is;
+                numbers_are = mine.numbers_are;
                 listed = mine.listed;
                 mine = mine.mine;
                 seen = mine.seen;
@@ -141,6 +145,8 @@ module _ {C A E : Type 0} (about : C → A) (history : C → List E) (writer : E
         (λ j x apart ok. ok)
         record {
           about_is = mine.about_is;
+          start_is = mine.start_is;
+          numbers_are = mine.numbers_are;
           listed = mine.listed;
           mine = mine.mine;
           seen = mine.seen;
@@ -158,7 +164,8 @@ module _ {C A E : Type 0} (about : C → A) (history : C → List E) (writer : E
     tries s r deep at_id fits =
         let i : ℕ = 2 * c + 1 in let here = at_id ∙ ap some is in let d = r.deep in
         let low : c < length r.histories = omega arith in
-        let tied = (r.each_pass id 0 (lone k) k here refl).about_is in
+        let mine = r.each_pass id 0 (lone k) k here refl in
+        let tied = mine.about_is in
         ⊎_elim
         (λ (t : (get_or s.words i 0 ≡ 0)
         × IsHome about history abouts s.homes (at r.histories c) c).
@@ -194,11 +201,16 @@ module _ {C A E : Type 0} (about : C → A) (history : C → List E) (writer : E
             λ _. (
               (λ n. (lone (missed (q n) (p n)), me.1)),
               record {
-                start = start;
-                numbers = numbers;
                 state = s;
-                kept = subst (λ (b : List A). Kept about history writer law tells b start
-                    numbers s) (sym tied ∙ ap (λ (z : K). z.about) p) r;
+                kept = subst (λ (z : List A × (List (List E) × List ℕ)).
+                    Kept about history writer law tells z.0 z.1.0 z.1.1 s)
+                    (λ n. (
+                      (sym tied ∙ ap (λ (z : K). z.about) p) n,
+                      (
+                        (sym mine.start_is ∙ ap (λ (z : K). z.start) p) n,
+                        (sym mine.numbers_are ∙ ap (λ (z : K). z.numbers) p) n,
+                      ),
+                    )) r;
                 taken = ap (λ (n : ℕ). get_or s.words (2 * n + 1) 0) (sym q) ∙ one;
               },
             ),

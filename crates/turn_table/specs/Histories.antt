@@ -14,10 +14,13 @@ abbrev pub ArePrefixes : {E : Type 0} → List (List E) → List (List E) → Ty
 ArePrefixes {E} early late =
     (cell : ℕ) → (more : List E) × (at late cell ≡ at early cell ++ more)
 
--- the same, and P holds of each entry behind the beginnings
+-- the early history begins the late one, and P holds of each entry behind it
+abbrev pub Adds : {E : Type 0} → (E → Type 0) → List E → List E → Type 0
+Adds {E} P early late = (more : List E) × (late ≡ early ++ more) × All P more
+
+-- the same of each cell's history
 abbrev pub GrewBy : {E : Type 0} → (E → Type 0) → List (List E) → List (List E) → Type 0
-GrewBy {E} P early late =
-    (cell : ℕ) → (more : List E) × (at late cell ≡ at early cell ++ more) × All P more
+GrewBy P early late = (cell : ℕ) → Adds P (at early cell) (at late cell)
 
 -- the turn word and the length word of each cell, where no turn is taken
 abbrev pub words_of : {E : Type 0} → List (List E) → List ℕ

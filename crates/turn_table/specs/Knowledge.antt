@@ -24,10 +24,13 @@ module _ {A E : Type 0} where
     pub looks : length k.looks ≡ count
     pub asof : length k.asof ≡ count
 
-  -- a pass that has seen nothing of so many cells
-  abbrev pub fresh : List A → ℕ → ℕ → Known A E
-  fresh about count number = record {
+  -- a pass that has seen nothing of so many cells, of a table that started with these histories
+  -- and makes passes with these numbers
+  abbrev pub fresh : List A → List (List E) → List ℕ → ℕ → ℕ → Known A E
+  fresh about start numbers count number = record {
     about = about;
+    start = start;
+    numbers = numbers;
     number = number;
     seen = replicate count [];
     hand = replicate count None;
@@ -77,5 +80,5 @@ module _ {A E : Type 0} where
 
   -- the view of a seat with these passes
   abbrev pub dealt : List (Known A E) → View A E
-  dealt [] = record { used = false; pass = fresh [] 0 0; more = [] }
+  dealt [] = record { used = false; pass = fresh [] [] [] 0 0; more = [] }
   dealt (k ∷ ks) = record { used = true; pass = k; more = ks }

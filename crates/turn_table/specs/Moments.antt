@@ -1,9 +1,10 @@
 -- The law between any two steps, and what words and slots are then (own).
-use Rattle.std.specs.Prelude.{ℕ, ◌+◌, ◌*◌, ◌≡◌, ◌⊎◌, ◌<◌, List, length, slice_index, Option}
+use Rattle.std.specs.Prelude.{ℕ, ◌+◌, ◌*◌, ◌≡◌, ◌⊎◌, ◌<◌, List, length, map, slice_index, Option}
 use Rattle.atomic_table.specs.Table.{State}
 use Rattle.turn_table.specs.declared.knowledge.View.{View}
 use Rattle.turn_table.specs.Histories.{at}
-use Rattle.turn_table.specs.Rule.{IsHeld, IsHome, Kept}
+use Rattle.turn_table.specs.declared.rule.Opening.{Opening}
+use Rattle.turn_table.specs.Rule.{IsHeld, IsHome}
 
 module _ {C A E : Type 0} (about : C → A) (history : C → List E)
     (law : List A → List (List E) → Type 0) where
@@ -26,9 +27,7 @@ module _ {C A E : Type 0} (about : C → A) (history : C → List E)
         → (h.seat ≡ h'.seat) × (h.place ≡ h'.place)
     pub in_hand : (cell : ℕ) (h : IsHeld s.views cell) → h.history ≡ at histories cell
 
-  -- each state that keeps the rule is such a moment
-  abbrev pub IsLawBetweenSteps : (E → ℕ)
-      → (List A → ℕ → List (List E) → List (List E) → Type 0) → Type 0
-  IsLawBetweenSteps writer tells = (abouts : List A) (start : List (List E)) (numbers : List ℕ)
-      (s : State (Option C) (View A E))
-      → Kept about history writer law tells abouts start numbers s → IsMoment abouts s
+  -- each state of a table that keeps this rule is such a moment, whatever the table started with
+  abbrev pub IsLawBetweenSteps : (Opening C → State (Option C) (View A E) → Type 0) → Type 0
+  IsLawBetweenSteps rule = (opening : Opening C) (s : State (Option C) (View A E))
+      → rule opening s → IsMoment (map about opening.cells.value) s

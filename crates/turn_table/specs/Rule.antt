@@ -51,9 +51,12 @@ module _ {C A E : Type 0} (about : C → A) (history : C → List E) where
 module _ {A E : Type 0} (writer : E → ℕ)
     (tells : List A → ℕ → List (List E) → List (List E) → Type 0) where
   -- what is true of one pass, which this seat has
-  pub record IsPass (abouts : List A) (numbers : List ℕ) (histories : List (List E))
-      (owner holder : ℕ → ℕ) (words : List ℕ) (seat : ℕ) (k : Known A E) : Type 0 where
+  pub record IsPass (abouts : List A) (start : List (List E)) (numbers : List ℕ)
+      (histories : List (List E)) (owner holder : ℕ → ℕ) (words : List ℕ) (seat : ℕ)
+      (k : Known A E) : Type 0 where
     pub about_is : k.about ≡ abouts
+    pub start_is : k.start ≡ start
+    pub numbers_are : k.numbers ≡ numbers
     pub listed : Contains numbers k.number
     pub mine : owner k.number ≡ seat
     pub seen : GrewBy (λ entry. writer entry ≢ k.number) k.seen histories
@@ -83,7 +86,7 @@ module _ {C A E : Type 0} (about : C → A) (history : C → List E) (writer : E
         → IsCell about history abouts histories s.words s.homes s.views cell
     pub each_pass : (seat place : ℕ) (view : View A E) (k : Known A E)
         → get_elem? s.views seat ≡ some view → get_elem? (passes_of view) place ≡ some k
-        → IsPass writer tells abouts numbers histories owner holder s.words seat k
+        → IsPass writer tells abouts start numbers histories owner holder s.words seat k
     pub apart : (seat place other : ℕ) (view : View A E) (k l : Known A E)
         → get_elem? s.views seat ≡ some view → get_elem? (passes_of view) place ≡ some k
         → get_elem? (passes_of view) other ≡ some l → k.number ≡ l.number → place ≡ other

@@ -1,22 +1,48 @@
 -- What each kind of step tells the pass that makes it (own).
-use Rattle.std.specs.Prelude.{ℕ, ◌+◌, ◌*◌, ◌≡◌, ◌≢◌, ◌<◌, List, ◌∷◌, ◌++◌, All, length, slice_get, slice_index, Option, Some, None}
+use Rattle.std.specs.Prelude.{ℕ, ◌+◌, ◌*◌, ◌≡◌, ◌≢◌, ◌⊎◌, ◌<◌, List, [], ◌∷◌, Contains, length, slice_get, slice_index, Option, Some, None}
 use Rattle.atomic_table.specs.Table.{Me, State, Step, rest}
 use Rattle.turn_table.specs.declared.knowledge.Known.{Known}
 use Rattle.turn_table.specs.declared.knowledge.View.{View}
-use Rattle.turn_table.specs.Histories.{at, ArePrefixes}
+use Rattle.turn_table.specs.Histories.{at, Adds, ArePrefixes}
 use Rattle.turn_table.specs.Knowledge.{asof, gave, hand, lone, looked, missed, sealed, took}
 use Rattle.turn_table.specs.Rule.{Kept}
+
+-- what follows the old seen list carries other numbers than the pass's own, and what follows the
+-- history at the start carries numbers of passes of the table
+abbrev pub AddsOthers : {A E : Type 0} → (E → ℕ) → Known A E → ℕ → List E → Type 0
+AddsOthers writer k cell entries = Adds (λ entry. writer entry ≢ k.number) (at k.seen cell) entries
+    × Adds (λ entry. Contains k.numbers (writer entry)) (at k.start cell) entries
+
+-- of a table with one pass, a look finds what the pass had seen, or what was there at the start
+abbrev pub IsLawOfOnePass : (A : Type 0) {E : Type 0} → (E → ℕ) → Type 0
+IsLawOfOnePass A {E} writer = (k : Known A E) (cell : ℕ) (entries : List E)
+    → k.numbers ≡ k.number ∷ [] → AddsOthers writer k cell entries
+    → (entries ≡ at k.seen cell) ⊎ (entries ≡ at k.start cell)
 
 module _ {C A E : Type 0} (about : C → A) (history : C → List E) (writer : E → ℕ)
     (law : List A → List (List E) → Type 0)
     (tells : List A → ℕ → List (List E) → List (List E) → Type 0) where
-  -- a moment at which the rule held, and the turn word of the cell was 1
-  pub record WasTaken (abouts : List A) (cell : ℕ) : Type 0 where
-    pub start : List (List E)
-    pub numbers : List ℕ
+  -- this state keeps the rule of the table for which the pass was made
+  abbrev pub IsKeptFor : Known A E → State (Option C) (View A E) → Type 0
+  IsKeptFor k = Kept about history writer law tells k.about k.start k.numbers
+
+  -- a moment of the pass's table at which the turn word of the cell was 1
+  pub record WasTaken (k : Known A E) (cell : ℕ) : Type 0 where
     pub state : State (Option C) (View A E)
-    pub kept : Kept about history writer law tells abouts start numbers state
+    pub kept : IsKeptFor k state
     pub taken : slice_index state.words (2 * cell + 1) ≡ 1
+
+  -- the pass's table at a look: its histories meet the law, what was seen begins them, the cell
+  -- was seen whole, and what each look has told holds of them
+  pub record Glimpse (cell : ℕ) (k : Known A E) : Type 0 where
+    pub state : State (Option C) (View A E)
+    pub kept : IsKeptFor k state
+    pub seen : ArePrefixes k.seen kept.histories
+    pub whole : at k.seen cell ≡ at kept.histories cell
+    pub told : (other : ℕ) → 0 < slice_index k.looks other
+        → tells k.about other (asof k other) kept.histories
+    pub since : (other : ℕ) → 0 < slice_index k.looks other
+        → ArePrefixes (asof k other) k.seen
 
   -- a try found the turn word 0, and took the turn with the value; or it found 1
   abbrev pub Tries : Step (Option C) → Me (Option C) (View A E) → ℕ → Me (Option C) (View A E)
@@ -27,36 +53,15 @@ module _ {C A E : Type 0} (about : C → A) (history : C → List E) (writer : E
       × (slice_get k.about cell ≡ Some (about value))
       × (after.1 ≡ (cell, Some value) ∷ me.1)
       × (after.0 ≡ lone (took cell (history value) k)))
-      × (found ≢ 0 → (after ≡ (lone (missed cell k), me.1)) × WasTaken k.about cell)
+      × (found ≢ 0 → (after ≡ (lone (missed cell k), me.1)) × WasTaken k cell)
 
-module _ {A E : Type 0} (law : List A → List (List E) → Type 0)
-    (tells : List A → ℕ → List (List E) → List (List E) → Type 0) where
-  -- the histories at a look: they meet the law, what was seen begins them, the cell was seen
-  -- whole, and what each look has told holds of them
-  pub record Glimpse (cell : ℕ) (k : Known A E) : Type 0 where
-    pub histories : List (List E)
-    pub lawful : law k.about histories
-    pub seen : ArePrefixes k.seen histories
-    pub whole : at k.seen cell ≡ at histories cell
-    pub told : (other : ℕ) → 0 < slice_index k.looks other
-        → tells k.about other (asof k other) histories
-    pub since : (other : ℕ) → 0 < slice_index k.looks other
-        → ArePrefixes (asof k other) k.seen
-
--- the old seen list begins the history, and what follows it carries other numbers
-abbrev pub AddsOthers : {A E : Type 0} → (E → ℕ) → Known A E → ℕ → List E → Type 0
-AddsOthers {A} {E} writer k cell entries = (more : List E) × (entries ≡ at k.seen cell ++ more)
-    × All (λ entry. writer entry ≢ k.number) more
-
-module _ {C A E : Type 0} (writer : E → ℕ) (law : List A → List (List E) → Type 0)
-    (tells : List A → ℕ → List (List E) → List (List E) → Type 0) where
   -- a look found the length of the history in hand, which the pass has now seen
   abbrev pub Sees : Step (Option C) → Me (Option C) (View A E) → ℕ → Me (Option C) (View A E)
       → Type 0
   Sees st me found after = (cell : ℕ) (k : Known A E) (entries : List E)
       → st.word ≡ 2 * cell + 2 → me.0 ≡ lone k → hand k cell ≡ Some entries
       → (after ≡ (lone (looked cell entries k), me.1)) × (found ≡ length entries)
-      × AddsOthers writer k cell entries × Glimpse law tells cell (looked cell entries k)
+      × AddsOthers writer k cell entries × Glimpse cell (looked cell entries k)
 
 -- a seal: the history in hand becomes that of the value that lies in the slot
 abbrev pub Seals : {C A E : Type 0} → (C → List E) → Step (Option C)

@@ -1,5 +1,5 @@
 // What a cell's value means, and the law over all cells.
-ghost use Rattle.std.specs.Prelude.{ℕ, ◌≡◌, ◌<◌, List, ◌++◌, All, length, IfErr, OnOk};
+ghost use Rattle.std.specs.Prelude.{ℕ, ◌≡◌, ◌<◌, List, ◌++◌, All, length, IfErr, OnErr, OnOk};
 ghost use Rattle.turn_table.specs.Histories.{at, with_more, ArePrefixes};
 
 /// The value of a cell. It has a history, which only grows, and a law is over the histories of
@@ -47,13 +47,14 @@ pub trait CellState: Drop {
     ghost tells: { List Self.About → ℕ → List (List Self.Entry) → List (List Self.Entry)
         → Type 0 };
 
-    /// Makes room for the entries of a sealing.
+    /// Makes room for the entries of a sealing. Where it makes none, the room stays too.
     fn reserve(&mut self, by: u64, sealing: &Self::Sealing) -> Result<(), Self::Refusal>
         requires { can_reserve self.old sealing.now }
         ensures about { about self.new ≡ about self.old }
         ensures history { history self.new ≡ history self.old }
         ensures room { OnOk result (room self.new by sealing.now) }
         ensures takes { OnOk result (takes self.old sealing.now) }
+        ensures err { OnErr result (self.new ≡ self.old) }
         ensures cause { IfErr result (λ refusal. refuses self.old sealing.now refusal) };
 
     /// Appends the entries of a sealing that has room. Takes no memory.

@@ -51,12 +51,14 @@ pub(crate) fn deal<C: CellState>(
     requires cells { (cells ≡ top.now.table_id.slots) × (cells ≡ length top.now.key.cells.value) }
     requires seat { seat.me ≡ (
       dealt (map
-          (fresh (map C.about top.now.key.cells.value) (length top.now.key.cells.value))
+          (fresh (map C.about top.now.key.cells.value) (map C.history top.now.key.cells.value)
+          top.now.key.numbers.value (length top.now.key.cells.value))
           numbers.now),
       [],
     ) }
     ensures known { IfOk result (λ v. map known v.items ≡ map
-        (fresh (map C.about top.now.key.cells.value) (length top.now.key.cells.value))
+        (fresh (map C.about top.now.key.cells.value) (map C.history top.now.key.cells.value)
+        top.now.key.numbers.value (length top.now.key.cells.value))
         numbers.now) }
     ensures own { IfOk result (λ v. All (λ pass. table_of pass ≡ top.now.table_id) v.items) }
 {

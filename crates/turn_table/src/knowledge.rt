@@ -5,6 +5,10 @@ use std::collections::LinkedList;
 pub struct Known<A, E> {
     /// What is fixed of each cell.
     pub about: LinkedList<A>,
+    /// The histories with which the table started.
+    pub start: LinkedList<LinkedList<E>>,
+    /// The numbers of all passes of the table.
+    pub numbers: LinkedList<u64>,
     /// The number that no other pass of the table has.
     pub number: u64,
     /// The beginning of the cell's history that the pass has seen.

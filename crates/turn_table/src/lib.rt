@@ -12,7 +12,8 @@ mod turn;
 
 pub use cell_state::CellState;
 pub use knowledge::{Known, View};
-pub use law::law_between_steps;
+pub use law::{law_between_steps, law_of_one_pass};
 pub use pass::{Pass, Passes};
+pub use rule::{Opening, Turns};
 pub use table::{Cells, TurnTable};
 pub use turn::Turn;

@@ -37,7 +37,8 @@ impl<C: CellState> TableRule<Option<C>, View<C::About, C::Entry>, Opening<C>> fo
         (map C.about start.cells.value) (map C.history start.cells.value) start.numbers.value };
 
     ghost first = { λ start. dealt (map
-        (fresh (map C.about start.cells.value) (length start.cells.value))
+        (fresh (map C.about start.cells.value) (map C.history start.cells.value)
+        start.numbers.value (length start.cells.value))
         start.numbers.value) };
 }
 
@@ -80,7 +81,7 @@ pub(crate) struct Look<C> {
 impl<C: CellState> Play<Option<C>, View<C::About, C::Entry>> for Look<C> {
     ghost use Rattle.turn_table.specs.Steps.{Sees};
 
-    ghost then = { Sees C.writer C.law C.tells };
+    ghost then = { Sees C.about C.history C.writer C.law C.tells };
 }
 
 // A seal, with the turn held.

@@ -49,8 +49,8 @@ impl<C: CellState> TurnTable<C> {
         ensures cells { IfOk result (λ made. made.0.cells ≡ length cells) }
         ensures opening { IfOk result (λ made. (made.0.board.shared.key.cells.value ≡ cells)
             × (made.0.board.shared.key.numbers.value ≡ numbers)) }
-        ensures passes { IfOk result (λ made. map known made.1
-            ≡ map (fresh (map C.about cells) (length cells)) numbers) }
+        ensures passes { IfOk result (λ made. map known made.1 ≡ map
+            (fresh (map C.about cells) (map C.history cells) numbers (length cells)) numbers) }
         ensures own { IfOk result (λ made.
             All (λ pass. table_of pass ≡ made.0.board.shared.table_id) made.1) }
     {
@@ -90,7 +90,7 @@ impl<C: CellState> TurnTable<C> {
             × (known pass.new ≡ took cell (turn_history C.history turn) (known pass.old))
             × (hand (known pass.new) cell ≡ Some (turn_history C.history turn))) }
         ensures absent { IfNone result ((known pass.new ≡ missed cell (known pass.old))
-            × WasTaken C.about C.history C.writer C.law C.tells (known pass.old).about cell) }
+            × WasTaken C.about C.history C.writer C.law C.tells (known pass.old) cell) }
     {
         let shared = &self.board.shared;
         let place = cell as usize;
@@ -143,7 +143,8 @@ impl<C: CellState> TurnTable<C> {
             ≡ turn_history C.history turn.now }
         ensures others { AddsOthers C.writer (known pass.old) turn.now.cell
             (turn_history C.history turn.now) }
-        ensures glimpse { Glimpse C.law C.tells turn.now.cell (known pass.new) }
+        ensures glimpse { Glimpse C.about C.history C.writer C.law C.tells turn.now.cell
+            (known pass.new) }
     {
         let place = turn.cell as usize;
         self.board

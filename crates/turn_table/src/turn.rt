@@ -1,5 +1,5 @@
 // The turn of a cell.
-ghost use Rattle.std.specs.Prelude.{◌≡◌, true, IfErr, IfSome, OnOk, Some, is_some};
+ghost use Rattle.std.specs.Prelude.{◌≡◌, true, IfErr, IfSome, OnErr, OnOk, Some, is_some};
 
 use crate::{CellState, Pass};
 
@@ -37,6 +37,7 @@ impl<C: CellState> Turn<C> {
             (IfSome self.new.value (λ value. C.room value (known pass.now).number sealing.now)) }
         ensures takes { OnOk result
             (IfSome self.old.value (λ value. C.takes value sealing.now)) }
+        ensures err { OnErr result (self.new.value ≡ self.old.value) }
         ensures cause { IfErr result
             (λ refusal. IfSome self.old.value (λ value. C.refuses value sealing.now refusal)) }
     {

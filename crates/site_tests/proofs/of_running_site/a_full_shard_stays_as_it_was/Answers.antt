@@ -5,7 +5,7 @@ use Rattle.site_tests.proofs.of_running_site.a_full_shard_stays_as_it_was.Goals 
 pub entries_left-requires-clause-own : goal.entries_left-requires-clause-own
 entries_left-requires-clause-own g c =
     let site = c.in_ok-site.site in
-    subst (IsPassIn site.table.board.shared.table_id site.table.board.shared.key.cells.value
+    subst (IsPassIn site.table.board.shared.table_id site.table.board.shared.key
     (layout_in site.names site.limit)) (sym c.take_record.ensures.pass) c.fills.ensures.own
 
 pub entries_left-requires-clause-number : goal.entries_left-requires-clause-number

@@ -9,7 +9,7 @@ pub returns-clause-own : goal.returns-clause-own
 returns-clause-own c =
     let site = c.in_ok-site.site in
     let last = sym c.into_vec-passes.ensures ∙ c.in-Some.ensures.items in
-    (All-pop (IsPassOf site.table.board.shared.table_id site.table.board.shared.key.cells.value
+    (All-pop (IsPassOf site.table.board.shared.table_id site.table.board.shared.key
     (layout_in site.names site.limit)) c.in_ok-site.passes c.pop.new.self.items
     (Some c.in-Some.pass) last c.in_ok-site.ensures.own).1
 

@@ -7,7 +7,7 @@ pub close-requires-clause-own : goal.close-requires-clause-own
 close-requires-clause-own c =
     let site = c.args.site in
     let pass = c.args.pass in
-    all-one (IsPassOf site.table.board.shared.table_id site.table.board.shared.key.cells.value
+    all-one (IsPassOf site.table.board.shared.table_id site.table.board.shared.key
     (layout_in site.names site.limit)) c.push.new.self pass
     (c.in_ok-push.ensures.ok ∙ ap (λ list. list ++ pass ∷ []) c.new-passes.ensures)
     c.requires.own

@@ -6,7 +6,7 @@ pub returns : goal.returns
 returns g c =
     let site = c.args.site.now in record {
       own =
-          subst (IsPassIn site.table.board.shared.table_id site.table.board.shared.key.cells.value
+          subst (IsPassIn site.table.board.shared.table_id site.table.board.shared.key
           (layout_in site.names site.limit)) (sym c.take_record.ensures.pass)
           c.carry_out-worker.ensures.own;
       number = c.take_record.ensures.number ∙ c.carry_out-worker.ensures.number;

@@ -13,8 +13,8 @@ pub split_seat-requires : goal.split_seat-requires
 split_seat-requires g c =
     let T = g.C.CellState in let i = c.loop-number.number-index in
     let xs = c.args.numbers.now in let key = c.args.top.now.key in
-    let F = fresh {E = g.row.C-Entry.Denot} (map T.about key.cells.value)
-    (length key.cells.value) in
+    let F = fresh (map T.about key.cells.value) (map T.history key.cells.value)
+    key.numbers.value (length key.cells.value) in
     let me : c.loop-number.seat.me.0 ≡ dealt (F (get_or xs i 0) ∷ map F (drop (i + 1) xs)) =
     ap (λ m. m.0) c.loop-number.invariant.left
     ∙ ap (λ l. dealt (map F l)) (drop_more xs i 0 (search rules)) in (
@@ -33,8 +33,8 @@ loop-number-preserved g c =
     let T = g.C.CellState in let i = c.loop-number.number-index in
     let xs = c.args.numbers.now in let key = c.args.top.now.key in
     let inv = c.loop-number.invariant in
-    let F = fresh {E = g.row.C-Entry.Denot} (map T.about key.cells.value)
-    (length key.cells.value) in
+    let F = fresh (map T.about key.cells.value) (map T.history key.cells.value)
+    key.numbers.value (length key.cells.value) in
     let low : i < length xs = search rules in
     let me : c.loop-number.seat.me.0 ≡ dealt (F (get_or xs i 0) ∷ map F (drop (i + 1) xs)) =
     ap (λ m. m.0) inv.left ∙ ap (λ l. dealt (map F l)) (drop_more xs i 0 low) in

@@ -10,10 +10,12 @@ invariant-loop-number g l = record {
   table : l.seat.table_id ≡ l.top.table_id;
   left : l.seat.me ≡ (
     dealt (map (fresh (map g.C.CellState.about l.top.key.cells.value)
+        (map g.C.CellState.history l.top.key.cells.value) l.top.key.numbers.value
         (length l.top.key.cells.value)) (drop l.number-index l.numbers)),
     [],
   );
   made : map known l.passes.items ≡ map (fresh (map g.C.CellState.about l.top.key.cells.value)
+      (map g.C.CellState.history l.top.key.cells.value) l.top.key.numbers.value
       (length l.top.key.cells.value)) (take l.number-index l.numbers);
   own : All (λ pass. table_of pass ≡ l.top.table_id) l.passes.items;
 }

@@ -13,7 +13,7 @@ use Rattle.running_site.proofs.calls.SiteOf+SiteCell.take_cut.Goals as goal
 
 pub returns-clause-own : goal.returns-clause-own
 returns-clause-own g c =
-    subst (λ s. IsPassOf s.table.board.shared.table_id s.table.board.shared.key.cells.value
+    subst (λ s. IsPassOf s.table.board.shared.table_id s.table.board.shared.key
     (layout_in s.names s.limit) c.end.new.pass)
     (c.take_cut_over-result.ensures.home ∙ c.visit-visit.ensures.site) c.end.ensures.own
 
@@ -55,7 +55,7 @@ returns-clause-stored g c =
     c.visit-visit.ensures.writer c.end.ensures.writer
     (ap (λ s. layout_in s.names s.limit) c.visit-visit.ensures.site)
     c.take_cut_over-result.ensures.course in
-    let own = subst (λ s. IsPassOf s.table.board.shared.table_id s.table.board.shared.key.cells.value
+    let own = subst (λ s. IsPassOf s.table.board.shared.table_id s.table.board.shared.key
     (layout_in s.names s.limit) after)
     (c.take_cut_over-result.ensures.home ∙ c.visit-visit.ensures.site) c.end.ensures.own in
     let later = subst (λ ns. IsLater ns (sight_in (known v.pass)) (sight_in (known w.pass)))
@@ -67,4 +67,4 @@ returns-clause-stored g c =
     (sight_of before) (sight_of after) c.take_cut_over-result.result done
     (looks-same before.pass before.marks.items before.own.items)
     (looks-same after.pass after.marks.items after.own.items) last
-    (since-of site.table.board.shared.table_id site.table.board.shared.key.cells.value site.names site.limit after.pass own)
+    (since-of site.table.board.shared.table_id site.table.board.shared.key site.names site.limit after.pass own)

@@ -10,7 +10,7 @@ use Rattle.running_site.proofs.calls.SiteOf+SiteCell.topic_state.Goals as goal
 
 pub returns-clause-own : goal.returns-clause-own
 returns-clause-own g c =
-    subst (λ s. IsPassOf s.table.board.shared.table_id s.table.board.shared.key.cells.value
+    subst (λ s. IsPassOf s.table.board.shared.table_id s.table.board.shared.key
     (layout_in s.names s.limit) c.end.new.pass)
     (c.topic_state_over-result.ensures.home ∙ c.visit-visit.ensures.site) c.end.ensures.own
 

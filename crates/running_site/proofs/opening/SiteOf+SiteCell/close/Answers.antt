@@ -21,7 +21,7 @@ pub close-requires-clause-some : goal.close-requires-clause-some
 close-requires-clause-some c =
     let self = c.args.self in
     let are = all-inside self.table.board.shared.table_id
-    self.table.board.shared.key.cells.value (layout_in self.names self.limit)
+    self.table.board.shared.key (layout_in self.names self.limit)
     c.args.passes c.requires.own in
     let inside = c.in_ok-inside.ensures in
     let some = some-pass self.passes (map number_of c.args.passes) self.some c.requires.all in
@@ -34,7 +34,7 @@ pub close-requires-clause-own : goal.close-requires-clause-own
 close-requires-clause-own c =
     let self = c.args.self in
     let table = self.table.board.shared.table_id in
-    let are = all-inside table self.table.board.shared.key.cells.value (layout_in self.names self.limit) c.args.passes c.requires.own in
+    let are = all-inside table self.table.board.shared.key (layout_in self.names self.limit) c.args.passes c.requires.own in
     subst (All (λ (p : TablePass). table_of p ≡ table)) (sym c.in_ok-inside.ensures)
     (all-of (λ (p : TablePass). table_of p ≡ table) (passes_in c.args.passes) are.own)
 
@@ -42,7 +42,7 @@ pub close-requires-clause-free : goal.close-requires-clause-free
 close-requires-clause-free c =
     let self = c.args.self in
     let are = all-inside self.table.board.shared.table_id
-    self.table.board.shared.key.cells.value (layout_in self.names self.limit)
+    self.table.board.shared.key (layout_in self.names self.limit)
     c.args.passes c.requires.own in
     subst (All (λ (p : TablePass). IsFree (known p))) (sym c.in_ok-inside.ensures)
     (all-of (λ (p : TablePass). IsFree (known p)) (passes_in c.args.passes) are.free)
@@ -51,7 +51,7 @@ pub close-requires-clause-all : goal.close-requires-clause-all
 close-requires-clause-all c =
     let self = c.args.self in
     let are = all-inside self.table.board.shared.table_id
-    self.table.board.shared.key.cells.value (layout_in self.names self.limit)
+    self.table.board.shared.key (layout_in self.names self.limit)
     c.args.passes c.requires.own in
     let P : List ℕ → List ℕ → Type 0 = λ numbers ns. All (λ n. Contains numbers n) ns in
     subst (P (map (λ (p : TablePass). (known p).number) c.in_ok-inside.inside)) (sym self.numbered)
@@ -67,7 +67,7 @@ returns c =
     let passes = c.args.passes in
     let some = some-pass self.passes (map number_of passes) self.some c.requires.all in
     let long : length (map number_of passes) ≡ length passes = simp length-map in
-    let opened = opened-by self.table.board.shared.table_id key.cells.value
+    let opened = opened-by self.table.board.shared.table_id key
     (layout_in self.names self.limit) passes (omega (arith, some, long)) c.requires.own in
     let Ends : Histories → Type 0 = λ hs. (ns : List NameShards)
     → length cells ≡ cells_in ns + 1 → hs ≡ histories_in ns (map log_of_cell cells) in
@@ -76,7 +76,7 @@ returns c =
     let Signed : List Log → Type 0 = λ logs. All (All (λ entry.
     Contains (numbers_to self.passes) (author_of entry))) logs in
     let seen : Seen (map log_of_cell cells) =
-    seen-all self.table.board.shared.table_id key.cells.value (layout_in self.names self.limit)
+    seen-all self.table.board.shared.table_id key (layout_in self.names self.limit)
     (map log_of_cell cells) passes c.requires.own
     (subst (All (λ (p : TablePass). GrewBy (λ entry. author_of entry ≢ (known p).number)
     (known p).seen (map log_of_cell cells))) c.in_ok-inside.ensures c.close.ensures.seen) in

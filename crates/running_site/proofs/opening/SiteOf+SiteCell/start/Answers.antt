@@ -8,6 +8,7 @@ use Rattle.running_site.specs.Passes.{layout_in, new_writer, IsPassOf, TablePass
 use Rattle.running_site.proofs.CloseLemmas.{all-of}
 use Rattle.running_site.proofs.KnownLemmas.{each_of}
 use Rattle.running_site.proofs.NumberLemmas.{numbers-differ}
+use Rattle.running_site.proofs.SignedLemmas.{all-listed}
 use Rattle.running_site.proofs.StartLemmas.{fresh-new, fresh-own, start-lawful, start-long, start-new}
 use Rattle.running_site.proofs.opening.SiteOf+SiteCell.start.Goals as goal
 
@@ -39,15 +40,19 @@ invariant_of-site c = record {
 pub returns-clause-own : goal.returns-clause-own
 returns-clause-own c =
     let table = c.in_ok-table.table.board.shared.table_id in
-    let cells = c.in_ok-table.table.board.shared.key.cells.value in
-    all-of (IsPassOf table cells (layout_in c.args.names c.args.limit)) c.in_ok-made.made
+    let key = c.in_ok-table.table.board.shared.key in
+    let numbers = c.in_ok-numbers.numbers in
+    all-of (IsPassOf table key (layout_in c.args.names c.args.limit)) c.in_ok-made.made
     (fresh-own c.args.names c.args.limit (map about_in c.in_ok-cells.cells)
-    (length c.in_ok-cells.cells) c.in_ok-cells.ensures.abouts table cells
-    c.in_ok-numbers.numbers c.in_ok-table.inside c.in_ok-made.made
+    (map log_of_cell c.in_ok-cells.cells) numbers (length c.in_ok-cells.cells)
+    c.in_ok-cells.ensures.abouts c.in_ok-cells.ensures.empty table key numbers
+    c.in_ok-table.inside c.in_ok-made.made
     (record {
       told = ap (map about_in) c.in_ok-table.ensures.opening.0 ∙ c.in_ok-cells.ensures.abouts;
       empty = ap (map log_of_cell) c.in_ok-table.ensures.opening.0 ∙ c.in_ok-cells.ensures.empty;
     })
+    (sym c.in_ok-table.ensures.opening.1)
+    (each_of (Contains numbers) numbers (all-listed numbers))
     c.in_ok-made.ensures c.in_ok-table.ensures.passes
     (each_of (λ (p : TablePass). table_of p ≡ table) c.in_ok-table.inside
     c.in_ok-table.ensures.own))
@@ -55,7 +60,8 @@ returns-clause-own c =
 pub returns-clause-new : goal.returns-clause-new
 returns-clause-new c =
     fresh-new c.args.names c.args.limit (map about_in c.in_ok-cells.cells)
-    (length c.in_ok-cells.cells) c.in_ok-cells.ensures.abouts c.in_ok-numbers.numbers
+    (map log_of_cell c.in_ok-cells.cells) c.in_ok-numbers.numbers (length c.in_ok-cells.cells)
+    c.in_ok-cells.ensures.abouts c.in_ok-cells.ensures.empty c.in_ok-numbers.numbers
     c.in_ok-table.inside c.in_ok-made.made
     (start-long c.args.names c.in_ok-cells.cells c.in_ok-cells.ensures.empty)
     c.in_ok-made.ensures c.in_ok-table.ensures.passes

@@ -19,6 +19,7 @@ invariant_of-self g c =
     let v = c.args.self.now in
     record {
       seated = c.seal_in-result.ensures.seated ∙ v.seated;
+      numbered = c.seal_in-result.ensures.numbers ∙ v.numbered;
       opened = v.opened;
       visit = subst (IsVisit v.site.now.names v.site.now.limit (known c.seal_in-result.new.pass))
           (sym c.hold.ensures) c.seal_in-result.ensures.visit;

@@ -7,9 +7,14 @@ pub invariant_of-result : goal.invariant_of-result
 invariant_of-result g c =
     let site = c.args.self.now in
     let here = came-visit site.table.board.shared.table_id
-    site.table.board.shared.key.cells.value site.names site.limit
+    site.table.board.shared.key site.names site.limit
     c.args.pass.now.pass c.in-Some.inside (sym c.take.ensures.value ∙ c.in-Some.is) c.requires in
-    record { seated = here.0; opened = c.requires.opened; visit = here.1 }
+    record {
+      seated = here.0;
+      numbered = here.1;
+      opened = c.requires.opened;
+      visit = here.2;
+    }
 
 pub returns-clause-writer : goal.returns-clause-writer
 returns-clause-writer g c =

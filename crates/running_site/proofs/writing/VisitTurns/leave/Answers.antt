@@ -1,5 +1,8 @@
-use Rattle.std.proofs.Common.{sym, refl, ◌∙◌, subst}
+use Rattle.std.proofs.Common.{sym, refl, ap, ◌∙◌, subst}
+use Rattle.exchange_rules.specs.declared.log_entry.LogEntry.{LogEntry}
+use Rattle.site_laws.specs.declared.cell_about.CellAbout.{CellAbout}
 use Rattle.turn_table.specs.Calls.{known}
+use Rattle.turn_table.specs.declared.knowledge.Known.{Known}
 use Rattle.running_site.specs.Visits.{IsVisit}
 use Rattle.running_site.proofs.LeaveLemmas.{gave-later, gave-visit}
 use Rattle.running_site.proofs.writing.VisitTurns.leave.Goals as goal
@@ -25,6 +28,8 @@ invariant_of-self g c =
     (sym c.take.ensures.value ∙ c.in-Some.is) v.visit in
     record {
       seated = c.give.ensures.own ∙ v.seated;
+      numbered = ap (λ (x : Known CellAbout LogEntry). x.numbers) c.give.ensures.gave
+          ∙ v.numbered;
       opened = v.opened;
       visit = subst (IsVisit v.site.now.names v.site.now.limit (known c.give.new.pass))
           (sym c.take.ensures.after)

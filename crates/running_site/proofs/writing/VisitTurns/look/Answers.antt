@@ -2,9 +2,12 @@ use Rattle.std.proofs.Common.{◌≡◌, ◌+◌, ◌<◌, [], ◌∷◌, ◌++�
 use Rattle.topic_book.specs.Cells.{cells_in}
 use Rattle.exchange_rules.specs.Following.{Writer}
 use Rattle.exchange_rules.specs.Primitives.{LooksAt}
+use Rattle.exchange_rules.specs.declared.log_entry.LogEntry.{LogEntry}
 use Rattle.site_laws.specs.Looks.{IsLater}
+use Rattle.site_laws.specs.declared.cell_about.CellAbout.{CellAbout}
 use Rattle.site_laws.proofs.LaterLemmas.{later-on}
 use Rattle.turn_table.specs.Calls.{known}
+use Rattle.turn_table.specs.declared.knowledge.Known.{Known}
 use Rattle.running_site.specs.Passes.{sight_in, writer_in}
 use Rattle.running_site.specs.Visits.{IsVisit}
 use Rattle.running_site.proofs.KnownLemmas.{wide-at}
@@ -23,12 +26,15 @@ invariant_of-self-2 g c =
     c.requires in
     record {
       seated = c.look.ensures.own ∙ (c.turn-turn.ensures.own ∙ v.seated);
+      numbered = ap (λ (x : Known CellAbout LogEntry). x.numbers) c.look.ensures.looked
+          ∙ (ap (λ (x : Known CellAbout LogEntry). x.numbers) took.2 ∙ v.numbered);
       opened = v.opened;
       visit = subst (IsVisit v.site.now.names v.site.now.limit (known c.look.new.pass))
           (sym c.hold.ensures)
           (looked-visit k (known c.turn-turn.new.pass) (known c.look.new.pass) c.args.cell took.0 t
           c.turn-turn.ensures.cell took.2 c.look.ensures.looked v.site.now.names v.site.now.limit
-          idle c.look.ensures.glimpse within c.look.ensures.holds c.look.ensures.seen
+          idle c.look.ensures.glimpse within c.look.ensures.others c.look.ensures.holds
+          c.look.ensures.seen
           c.turn-turn.ensures.about);
     }
 

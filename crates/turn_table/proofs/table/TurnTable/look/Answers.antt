@@ -53,5 +53,5 @@ returns g c =
       seen = ap (λ x. at x.seen cell) is
           ∙ seen-looked k cell p.seat.table_id.slots p.wide (omega (arith, width, low)) entries;
       others = told.2;
-      glimpse = subst (Glimpse T.law T.tells cell) (sym is) told.3;
+      glimpse = subst (Glimpse T.about T.history T.writer T.law T.tells cell) (sym is) told.3;
     }

@@ -18,7 +18,7 @@ new-requires g c =
     let Z : Type 0 = List g.row.C.Denot × (List ℕ × (List ℕ × List (Option g.row.C.Denot))) in
     subst (λ (z : Z). Kept T.about T.history T.writer T.law T.tells (map T.about z.0)
     (map T.history z.0) z.1.0 (opening z.1.1.0 z.1.1.1
-    (dealt (map (fresh {E = g.row.C-Entry.Denot} (map T.about z.0) (length z.0)) z.1.0))))
+    (dealt (map (fresh (map T.about z.0) (map T.history z.0) z.1.0 (length z.0)) z.1.0))))
     (λ i. (sym c.of.ensures i, (sym c.of-2.ensures i, (sym words i, sym slots i))))
     (opens T.about T.history T.writer T.law T.tells c.args.cells c.args.numbers
     c.requires.lawful c.requires.differ c.requires.new)
@@ -61,6 +61,7 @@ pub returns-clause-passes : goal.returns-clause-passes
 returns-clause-passes g c =
     let T = g.C.CellState in
     let cells = ap (λ k. k.cells.value) c.in-Ok.ensures.ok.5 ∙ c.of.ensures in
+    let numbers = ap (λ k. k.numbers.value) c.in-Ok.ensures.ok.5 ∙ c.of-2.ensures in
     ap (map known) c.from_vec.ensures ∙ (c.in_ok-passes.ensures.known
-    ∙ (λ i. map (fresh {E = g.row.C-Entry.Denot} (map T.about (cells i)) (length (cells i)))
-    (c.as_slice-2.ensures i)))
+    ∙ (λ i. map (fresh (map T.about (cells i)) (map T.history (cells i)) (numbers i)
+    (length (cells i))) (c.as_slice-2.ensures i)))
