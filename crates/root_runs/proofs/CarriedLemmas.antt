@@ -159,4 +159,4 @@ stopped_with old new p next b stop (BookFull topics) (Err memory) s e is =
     first_done old new p next (Err stop) s
 stopped_with old new p next b stop (OutOfMemory stand) (Ok x) s e is = absurd is
 stopped_with old new p next b stop (OutOfMemory stand) (Err memory) s e is =
-    first_begun old new p next s
+    first_begun old new p next (s.rest, s.stood.reached)

@@ -4,7 +4,9 @@ pub mod PutLemmas
 pub mod StorableLemmas
 pub mod UpdateLemmas
 pub mod QuietLemmas
+pub mod StandLemmas
 pub mod PartLemmas
+pub mod FewLemmas
 pub mod BeginLemmas
 pub mod ReadLemmas
 pub mod ShapeLemmas

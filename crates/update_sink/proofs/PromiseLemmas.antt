@@ -19,6 +19,7 @@ use Rattle.topic_book.proofs.TopicLemmas.{same_key-self}
 use Rattle.exchange_rules.specs.Accesses.{at_mark, at_owns, own_of}
 use Rattle.exchange_rules.specs.Batches.{Sunk, none_sunk}
 use Rattle.exchange_rules.specs.Bindings.{book_cell, store_course, store_seen}
+use Rattle.exchange_rules.specs.Calls.{HasAppended}
 use Rattle.exchange_rules.specs.Cells.{Log, bind, book_in, signed, store}
 use Rattle.exchange_rules.specs.Courses.{Course, ends, makes, and_ok}
 use Rattle.exchange_rules.specs.Deliveries.{sent_kind}
@@ -31,16 +32,19 @@ use Rattle.exchange_rules.specs.declared.fault.SiteFault.TheVariants.{ShardFull,
 use Rattle.exchange_rules.specs.declared.log_entry.LogEntry.{LogEntry}
 use Rattle.exchange_rules.specs.declared.log_entry.LogEntry.TheVariants as logged
 use Rattle.exchange_rules.specs.declared.run.TopicFault.{TopicFault}
+use Rattle.exchange_rules.specs.declared.run.TopicRun.{TopicRun}
 use Rattle.exchange_rules.proofs.ReachLemmas.{at_owns-append, count_by-append, owns_still}
 use Rattle.site_laws.specs.SiteCells.{histories_in}
 use Rattle.site_laws.proofs.CellLemmas.{book-append}
 use Rattle.source_streams.specs.Batches.{cut_item, given_names, is_before, is_new, item_of, items_in, items_of, new_items, topic_items, whole_batch}
 use Rattle.expr_types.specs.ExprTree.{TopicParts}
-use Rattle.update_sink.specs.Promises.{Gained, IsAbove, IsRunAlone, IsUnstored, appended, is_bind, is_other, is_store}
+use Rattle.update_sink.specs.Promises.{Gained, HasStood, IsAbove, IsRunAlone, IsUnstored, appended, is_bind, is_other, is_store, stand_of}
 use Rattle.update_sink.specs.Runs.{IsRun, IsStoppedBy}
+use Rattle.update_sink.specs.Topics.{run_of}
 use Rattle.update_sink.proofs.ItemLemmas.{each-made, each-sorted}
 use Rattle.update_sink.proofs.MostLemmas.{IsAtMost, Misses, at-most, at-most-begin, at-most-behind, at-most-ok, at-most-sends, at-most-source, at-most-store, at-most-then, at-most-up}
 use Rattle.update_sink.proofs.PartLemmas.{Looked, look-begins, looked-of, made-of, step-behind}
+use Rattle.update_sink.proofs.StandLemmas.{appended-of, counted-run}
 
 -- a run came somewhere in its course
 pub record HasReached {A : Type 0} (old new : Writer) (course : Course A) : Type 0 where
@@ -56,7 +60,7 @@ stopped-run {A} old new course told r = go told.fault r
     go (ShardFull c s n) r = record { rest = ends (Err told); reached = r }
     go (TopicBound kept) r = record { rest = ends (Err told); reached = r }
     go (BookFull topics) r = record { rest = ends (Err told); reached = r }
-    go (OutOfMemory stand) r = record { rest = r.0; reached = r.1 }
+    go (OutOfMemory stand) r = record { rest = r.rest; reached = r.stood.reached }
 
 -- whatever it answers
 pub run-reached : {A : Type 0} (old new : Writer) (course : Course (Result A TopicFault))
@@ -156,6 +160,40 @@ run-alone old new l t dest batches answer r a =
           (λ me. refl) (λ i me. refl) batches answer);
       others = none;
     }
+
+-- just so many writes stand as its answer tells
+pub run-stood : (old new : Writer) (l : Layout) (t : Asked) (dest : ByteList)
+    (batches : List ℕ → List CutPart → List (List BatchItem)) (r : Result TopicRun TopicFault)
+    → IsRun old new (run_course l t dest batches run_of) r → HasStood old new (stand_of r)
+run-stood old new l t dest batches r a = go r a
+  where
+    course : Course (Result TopicRun TopicFault)
+    course = run_course l t dest batches run_of
+
+    stood : (rest : Course (Result TopicRun TopicFault)) (n m : ℕ) → m ≡ n
+        → HasAppended old new course rest n → HasStood old new m
+    stood rest n m e h =
+        record { gained = gained-of old new course rest h.reached; counted = e ∙ h.counted }
+
+    answered : (r : Result TopicRun TopicFault) → Answers old new course r
+        → HasStood old new (stand_of r)
+    answered r a =
+        stood (ends r) (stand_of r) (stand_of r) refl
+        (appended-of stand_of old new course (ends r) (stand_of r) a
+        (counted-run l t dest batches) refl)
+
+    stopped : (stop : TopicFault) (fault : SiteFault) → IsStoppedBy old new course stop fault
+        → HasStood old new stop.stand
+    stopped stop (ShardFull c s n) a = answered (Err stop) a
+    stopped stop (TopicBound kept) a = answered (Err stop) a
+    stopped stop (BookFull topics) a = answered (Err stop) a
+    stopped stop (OutOfMemory stand) a =
+        let count = a.counted in
+        stood a.rest a.writes stop.stand (omega (arith, count)) a.stood
+
+    go : (r : Result TopicRun TopicFault) → IsRun old new course r → HasStood old new (stand_of r)
+    go (Ok run) a = answered (Ok run) a
+    go (Err stop) a = stopped stop stop.fault a
 
 -- nothing is stored where no step is recorded
 pub unstored-same : (old new : Writer) → new.own ≡ old.own → IsUnstored old new

@@ -84,7 +84,7 @@ quiet-source names src =
     (quiet-shards names src 0 (shards_of names src) []) (λ cut. tt)
 
 -- where a topic begins
-quiet-init : (names : List NameShards) (src : ByteList) (init : Option ℕ)
+pub quiet-init : (names : List NameShards) (src : ByteList) (init : Option ℕ)
     (state : Option (List ℕ)) → IsQuiet (init_course names src init state)
 quiet-init names src (Some n) state = tt
 quiet-init names src None (Some upto) = tt
@@ -149,19 +149,20 @@ quiet-read {B} names t answer =
         (λ done. ends (Ok (answer before cut)))
         (quiet-store SiteFault names t.key (tops_of cut)) (λ done. tt))
 
--- where memory was wanting in a quiet course, no write stands
+-- no write stands where a quiet course was followed
+pub quiet-appended : {A : Type 0} (old new : Writer) (p rest : Course A) → IsQuiet p
+    → Reaches old new p rest → HasAppended old new p rest 0
+quiet-appended old new p rest k r = record {
+  reached = r;
+  counted = sym (quiet-none old.me new.seen (counts old.seen) p r.accesses rest
+      (counts new.seen) k r.followed);
+}
+
+-- nor where memory was wanting in one
 pub stopped-quiet : {A : Type 0} (old new : Writer) (p rest : Course A) → IsQuiet p
     → Reaches old new p rest → IsStopped 0 old new p 0
-stopped-quiet old new p rest k r = record {
-  rest = rest;
-  writes = 0;
-  stood = record {
-    reached = r;
-    counted = sym (quiet-none old.me new.seen (counts old.seen) p r.accesses rest
-        (counts new.seen) k r.followed);
-  };
-  counted = refl;
-}
+stopped-quiet old new p rest k r =
+    record { rest = rest; writes = 0; stood = quiet-appended old new p rest k r; counted = refl }
 
 -- and none is told
 stand-quiet : {A : Type 0} (old new : Writer) (p : Course A) (stand : ℕ) → IsQuiet p

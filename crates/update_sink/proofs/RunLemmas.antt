@@ -27,7 +27,8 @@ use Rattle.exchange_rules.specs.Topics.{Asked, begin_course, binding_for, bound_
 use Rattle.exchange_rules.specs.declared.fault.SiteFault.{SiteFault}
 use Rattle.exchange_rules.specs.declared.fault.SiteFault.TheVariants.{ShardFull, TopicBound, BookFull, OutOfMemory}
 use Rattle.exchange_rules.specs.declared.run.TopicFault.{TopicFault}
-use Rattle.exchange_rules.proofs.ReachLemmas.{reaches_none, reaches_join, reaches_then}
+use Rattle.exchange_rules.proofs.AppendedLemmas.{appended_join, appended_none, appended_then, stopped_at, stopped_on}
+use Rattle.exchange_rules.proofs.ReachLemmas.{reaches_join, reaches_then}
 use Rattle.expr_check.specs.Faults.{itself_fault}
 use Rattle.expr_check.specs.Rules.{followed_by}
 use Rattle.expr_check.specs.Walk.{own_at, own_fault}
@@ -38,11 +39,14 @@ use Rattle.expr_types.specs.ExprTree.{search, tuple, select, having, sort, top, 
 use Rattle.expr_types.specs.Planned.{IsPlanned, call_limit, sizes}
 use Rattle.update_sink.specs.Runs.{IsRun, IsStoppedBy}
 use Rattle.update_sink.specs.Given.{AreGiven, AreThereNow}
+use Rattle.update_sink.specs.Promises.{stand_of}
 use Rattle.update_sink.specs.Sends.{MayFinish, finish_course}
 use Rattle.update_sink.specs.Topics.{Sink, asked_of, batches_over, no_topic, run_of, sent_item, sink_in_tree, sink_of, topic_at, topic_in_tree, topic_of, run_at}
 use Rattle.update_sink.proofs.BeginLemmas.{HasBegun, begun-later, cut-later, cut-of, has-begun}
 use Rattle.update_sink.proofs.ItemLemmas.{source-fit, topic-given}
-use Rattle.update_sink.proofs.ReadLemmas.{begun-on, cut-on}
+use Rattle.update_sink.proofs.QuietLemmas.{quiet-appended, quiet-begin, quiet-store}
+use Rattle.update_sink.proofs.ReadLemmas.{cut-on}
+use Rattle.update_sink.proofs.StandLemmas.{appended-of, counted-cut, counted-run, counted-store, counted-stored}
 use Rattle.update_sink.proofs.StoreLemmas.{may-store}
 use Rattle.update_sink.proofs.SendsLemmas.{store-reached, store-unrefused}
 
@@ -57,23 +61,25 @@ module _ {A B : Type 0} (old new : Writer) (p : Course (Result A TopicFault))
       reaches_then old new p (ends (Err told)) (unless_refused next) a
   stopped-first told (BookFull topics) a =
       reaches_then old new p (ends (Err told)) (unless_refused next) a
-  stopped-first told (OutOfMemory stand) a = (
-    and_then a.0 (unless_refused next),
-    reaches_then old new p a.0 (unless_refused next) a.1,
-  )
+  stopped-first told (OutOfMemory stand) a = record {
+    rest = and_then a.rest (unless_refused next);
+    writes = a.writes;
+    stood = appended_then old new p a.rest (unless_refused next) a.writes a.stood;
+    counted = a.counted;
+  }
 
--- a run that goes on from where it is
+-- a run that goes on from where it is, when no write stands yet
 pub run-on : {B : Type 0} (old mid new : Writer) (p q : Course (Result B TopicFault))
-    (r : Result B TopicFault) → Reaches old mid p q → IsRun mid new q r → IsRun old new p r
-run-on {B} old mid new p q (Ok b) a s = reaches_join old mid new p q (ends (Ok b)) a s
+    (r : Result B TopicFault) → HasAppended old mid p q 0 → IsRun mid new q r → IsRun old new p r
+run-on {B} old mid new p q (Ok b) a s = reaches_join old mid new p q (ends (Ok b)) a.reached s
 run-on {B} old mid new p q (Err told) a s = go told.fault s
   where
     go : (fault : SiteFault) → IsStoppedBy mid new q told fault
         → IsStoppedBy old new p told fault
-    go (ShardFull c k n) s = reaches_join old mid new p q (ends (Err told)) a s
-    go (TopicBound kept) s = reaches_join old mid new p q (ends (Err told)) a s
-    go (BookFull topics) s = reaches_join old mid new p q (ends (Err told)) a s
-    go (OutOfMemory stand) s = (s.0, reaches_join old mid new p q s.0 a s.1)
+    go (ShardFull c k n) s = reaches_join old mid new p q (ends (Err told)) a.reached s
+    go (TopicBound kept) s = reaches_join old mid new p q (ends (Err told)) a.reached s
+    go (BookFull topics) s = reaches_join old mid new p q (ends (Err told)) a.reached s
+    go (OutOfMemory stand) s = stopped_on 0 old mid new p q 0 told.stand a s
 
 module _ {B : Type 0} (old mid new : Writer) (names : List NameShards) (key : TopicKey)
     (tops : List ℕ) (b : B) where
@@ -89,25 +95,34 @@ module _ {B : Type 0} (old mid new : Writer) (names : List NameShards) (key : To
       (moved.done refl) moved.reached in
       reaches_then mid new (store_course names key tops) (ends (Ok tt)) next there
 
-  -- or memory was wanting
-  pub unstored-run : (told : TopicFault) (fault : SiteFault)
+  -- or memory was wanting, after so many writes
+  pub unstored-run : (p : Course (Result B TopicFault)) (n : ℕ) (told : TopicFault)
+      (fault : SiteFault)
+      → HasAppended old mid p (and_ok (store_course {E = TopicFault} names key tops)
+      (λ done. ends (Ok b))) n → told.stand ≡ n
       → Answered mid new (store_course {E = SiteFault} names key tops) (Err fault)
-      → IsStoppedBy mid new (and_ok (store_course {E = TopicFault} names key tops)
-      (λ done. ends (Ok b))) told fault
-  unstored-run told (ShardFull c s n) a =
-      absurd (store-unrefused mid new names key tops (ShardFull c s n) a)
-  unstored-run told (TopicBound kept) a =
+      → IsStoppedBy old new p told fault
+  unstored-run p n told (ShardFull c s k) before is a =
+      absurd (store-unrefused mid new names key tops (ShardFull c s k) a)
+  unstored-run p n told (TopicBound kept) before is a =
       absurd (store-unrefused mid new names key tops (TopicBound kept) a)
-  unstored-run told (BookFull topics) a =
+  unstored-run p n told (BookFull topics) before is a =
       absurd (store-unrefused mid new names key tops (BookFull topics) a)
-  unstored-run told (OutOfMemory stand) a =
+  unstored-run p n told (OutOfMemory stand) before is a =
       let moved = store-reached SiteFault TopicFault mid new names key tops a.rest
       a.stood.reached in
+      let course = store_course {E = TopicFault} names key tops in
       let next : Result (Unit {0}) TopicFault → Course (Result B TopicFault) =
-      unless_refused (λ done. ends (Ok b)) in (
-        and_then moved.other next,
-        reaches_then mid new (store_course names key tops) moved.other next moved.reached,
-      )
+      unless_refused (λ done. ends (Ok b)) in
+      let none = quiet-appended mid new course moved.other (quiet-store TopicFault names key tops)
+      moved.reached in
+      record {
+        rest = and_then moved.other next;
+        writes = n + 0;
+        stood = appended_join old mid new p (and_then course next) (and_then moved.other next) n 0
+            before (appended_then mid new course moved.other next 0 none);
+        counted = omega (arith, is);
+      }
 
 module _ {B : Type 0} (names : List NameShards) (t : Asked)
     (follow : List ℕ → List CutPart → Course (Result B TopicFault)) where
@@ -125,28 +140,41 @@ module _ {B : Type 0} (names : List NameShards) (t : Asked)
   begin-stopped old new (BookFull topics) a =
       reaches_then old new (begin_course names t) (ends (Err (BookFull topics)))
       (bound_then names t (stopped_by none_sunk) follow) a
-  begin-stopped old new (OutOfMemory stand) a = (
-    and_then a.rest (bound_then names t (stopped_by none_sunk) follow),
-    reaches_then old new (begin_course names t) a.rest
-        (bound_then names t (stopped_by none_sunk) follow) a.stood.reached,
-  )
+  begin-stopped old new (OutOfMemory stand) a =
+      let next = bound_then names t (stopped_by none_sunk) follow in
+      let count = a.counted in
+      record {
+        rest = and_then a.rest next;
+        writes = a.writes;
+        stood = appended_then old new (begin_course names t) a.rest next a.writes a.stood;
+        counted = omega (arith, count);
+      }
 
   -- or whose source couldn't be read
-  pub cut-stopped : (old mid new : Writer) (before : List ℕ) (x : TopicFault) (fault : SiteFault)
+  pub cut-stopped : (old mid new : Writer) (before : List ℕ) (fault : SiteFault)
       → Answers old mid (begin_course names t) (Ok before)
       → Stopped mid new (source_course names t.src) fault
-      → IsStoppedBy old new (topic_course names t (stopped_by none_sunk) follow) x fault
-  cut-stopped old mid new before x (ShardFull c s n) a b = absurd b
-  cut-stopped old mid new before x (TopicBound kept) a b = absurd b
-  cut-stopped old mid new before x (BookFull topics) a b = absurd b
-  cut-stopped old mid new before x (OutOfMemory stand) a b =
-      let next : List CutPart → Course (Result B TopicFault) = λ cut. follow before cut in (
-        and_then b.rest next,
-        reaches_join old mid new (topic_course names t (stopped_by none_sunk) follow)
-            (and_then (source_course names t.src) next) (and_then b.rest next)
-            (begun-on names t (stopped_by none_sunk) follow old mid before a)
-            (reaches_then mid new (source_course names t.src) b.rest next b.stood.reached),
-      )
+      → IsStoppedBy old new (topic_course names t (stopped_by none_sunk) follow)
+      (stopped_by none_sunk fault) fault
+  cut-stopped old mid new before (ShardFull c s n) a b = absurd b
+  cut-stopped old mid new before (TopicBound kept) a b = absurd b
+  cut-stopped old mid new before (BookFull topics) a b = absurd b
+  cut-stopped old mid new before (OutOfMemory stand) a b =
+      let course = topic_course names t (stopped_by none_sunk) follow in
+      let begun : Result (List ℕ) SiteFault = Ok before in
+      let next : List CutPart → Course (Result B TopicFault) = λ cut. follow before cut in
+      let first = appended_then old mid (begin_course names t) (ends begun)
+      (bound_then names t (stopped_by none_sunk) follow) 0
+      (quiet-appended old mid (begin_course names t) (ends begun) (quiet-begin names t) a) in
+      let count = b.counted in
+      record {
+        rest = and_then b.rest next;
+        writes = 0 + b.writes;
+        stood = appended_join old mid new course (and_then (source_course names t.src) next)
+            (and_then b.rest next) 0 b.writes first
+            (appended_then mid new (source_course names t.src) b.rest next b.writes b.stood);
+        counted = omega (arith, count);
+      }
 
 module _ (old mid new : Writer) (l : Layout) (key : TopicKey) (dest src : ByteList) (size : ℕ)
     (items : List TopicItem) (tops : List ℕ) (answer : Sunk → TopicRun) where
@@ -188,16 +216,21 @@ module _ (old mid new : Writer) (l : Layout) (key : TopicKey) (dest src : ByteLi
   -- or memory was wanting
   pub unfinished : (given : List TopicItem) → given ≡ items → (others : List NameShards)
       (upto : List ℕ) (docs : Sunk) (told : TopicFault)
-      → others ≡ l.names → upto ≡ tops → Answers old mid (sends_of given) (Ok docs)
+      → others ≡ l.names → upto ≡ tops → ((s : Sunk) → (answer s).stand ≡ s.stand)
+      → told.stand ≡ docs.stand → Answers old mid (sends_of given) (Ok docs)
       → Answered mid new (store_course {E = SiteFault} others key upto) (Err told.fault)
       → IsRun old new whole (Err told)
-  unfinished given are others upto docs told same is a s =
+  unfinished given are others upto docs told same is tells stands a s =
       let there = subst (λ u. Answered mid new (store_course {E = SiteFault} l.names key u)
       (Err told.fault)) is
       (subst (λ ns. Answered mid new (store_course {E = SiteFault} ns key upto)
       (Err told.fault)) same s) in
-      run-on old mid new whole (behind docs) (Err told) (sends-on given are docs a)
-      (unstored-run old mid new l.names key tops (answer docs) told told.fault there)
+      let batches = batches_of size (map (sent_item src) items) in
+      let before = appended-of stand_of old mid whole (behind docs) docs.stand
+      (sends-on given are docs a) (counted-stored l key dest src batches tops answer tells)
+      (counted-store stand_of docs.stand l.names key tops (answer docs) (tells docs)) in
+      unstored-run old mid new l.names key tops (answer docs) whole docs.stand told told.fault
+      before stands there
 
   -- or not all was delivered
   pub undelivered : (given : List TopicItem) → given ≡ items → (told : TopicFault)
@@ -207,10 +240,11 @@ module _ (old mid new : Writer) (l : Layout) (key : TopicKey) (dest src : ByteLi
       (subst (λ (x : List TopicItem). IsRun old mid (sends_of x) (Err told)) are s)
 
   -- or nothing was begun
-  pub unstarted : (told : TopicFault) (stand : ℕ) → told ≡ stopped_by none_sunk (OutOfMemory stand)
+  pub unstarted : (told : TopicFault) → told ≡ stopped_by none_sunk (OutOfMemory 0)
       → IsRun old old whole (Err told)
-  unstarted told stand is =
-      subst (λ x. IsRun old old whole (Err x)) (sym is) (whole, reaches_none old whole)
+  unstarted told is =
+      subst (λ x. IsRun old old whole (Err x)) (sym is)
+      (stopped_at 0 old old whole whole (appended_none old whole))
 
 module _ (w w1 : Writer) (l : Layout) (p : TopicParts) (dest : ByteList) (size : ℕ) where
   -- what a run asks for
@@ -231,10 +265,11 @@ module _ (w w1 : Writer) (l : Layout) (p : TopicParts) (dest : ByteList) (size :
       run_of
 
   -- nothing was done
-  pub run-unasked : (told : TopicFault) (stand : ℕ)
-      → told ≡ stopped_by none_sunk (OutOfMemory stand) → IsRun w w running (Err told)
-  run-unasked told stand is =
-      subst (λ x. IsRun w w running (Err x)) (sym is) (running, reaches_none w running)
+  pub run-unasked : (told : TopicFault) → told ≡ stopped_by none_sunk (OutOfMemory 0)
+      → IsRun w w running (Err told)
+  run-unasked told is =
+      subst (λ x. IsRun w w running (Err x)) (sym is)
+      (stopped_at 0 w w running running (appended_none w running))
 
   module _ (t : Asked) (is : t ≡ asked) where
     -- the topic didn't begin
@@ -256,8 +291,7 @@ module _ (w w1 : Writer) (l : Layout) (p : TopicParts) (dest : ByteList) (size :
           → Stopped w1 w2 (source_course l1.names t.src) fault → IsRun w w2 running (Err told)
       run-uncut fault told e s =
           subst (λ x. IsRun w w2 running (Err x)) (sym e)
-          (cut-stopped l.names asked done_of w w1 w2 before (stopped_by none_sunk fault) fault
-          began
+          (cut-stopped l.names asked done_of w w1 w2 before fault began
           (subst (λ (x : Asked). Stopped w1 w2 (source_course l.names x.src) fault) is
           (subst (λ (x : Layout). Stopped w1 w2 (source_course x.names t.src) fault) same s)))
 
@@ -335,9 +369,12 @@ module _ (w w1 : Writer) (l : Layout) (p : TopicParts) (dest : ByteList) (size :
               let s4 = subst (λ (x : List ℕ). IsRun w2 w3 (finish_course l asked.key dest
               p.collection size (topic_items p cut before) x (run_at before cut x)) r)
               tops_are s3 in
+              let on = cut-on l.names asked (stopped_by none_sunk) done_of w w1 w2 before cut began
+              was-cut in
               run-on w w2 w3 running (done_of before cut) r
-              (cut-on l.names asked (stopped_by none_sunk) done_of w w1 w2 before cut began was-cut)
-              s4
+              (appended-of stand_of w w2 running (done_of before cut) 0 on
+              (counted-run l asked dest (batches_over sink))
+              (counted-cut l asked dest (batches_over sink) before cut)) s4
 
 -- the first of several faults is none where none is
 first-none : {X : Type 0} (a b : Option X) → option_or a b ≡ None → a ≡ None

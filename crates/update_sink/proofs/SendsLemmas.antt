@@ -1,5 +1,5 @@
 -- How the run of a topic goes on, batch by batch, and to its store.
-use Rattle.std.proofs.Common.{◌≡◌, ℕ, zero, suc, ◌<◌, ◌⊎◌, List, [], ◌∷◌, ◌++◌, length, map, set, take, drop, Bool, true, false, refl, sym, ap, subst, ◌∙◌, arith, inl, inr, append_assoc, append-nil, Some, Result, Ok, Err}
+use Rattle.std.proofs.Common.{◌≡◌, ℕ, zero, suc, ◌+◌, ◌<◌, List, [], ◌∷◌, ◌++◌, length, map, set, take, drop, Bool, true, false, refl, sym, ap, subst, ◌∙◌, arith, append_assoc, append-nil, Some, Result, Ok, Err}
 use Rattle.std.specs.Prelude.{IfErr, IfOk, OnOk, if◌then◌else◌}
 use Rattle.std.specs.List.{AllByRecursion}
 use Rattle.std.proofs.lemmas.List.{length-map, map-append, take-append-drop}
@@ -16,11 +16,11 @@ use Rattle.once_core.proofs.GrowthLemmas.{reaches_up, top_up, write_up}
 use Rattle.exchange_rules.specs.Accesses.{Access, a_look, a_step, at_mark}
 use Rattle.exchange_rules.specs.Batches.{Sunk, batches_of, told_sunk, with_batch}
 use Rattle.exchange_rules.specs.Bindings.{book_cell, store_course, store_seen}
-use Rattle.exchange_rules.specs.Calls.{Answered}
+use Rattle.exchange_rules.specs.Calls.{Answered, HasAppended}
 use Rattle.exchange_rules.specs.Cells.{Log, Payload, book_in, store}
 use Rattle.exchange_rules.specs.Courses.{Course, ends, makes, and_then}
 use Rattle.exchange_rules.specs.Deliveries.{send_course}
-use Rattle.exchange_rules.specs.Following.{Follows, Grows, Writer, Reaches, Answers, Begins, counts}
+use Rattle.exchange_rules.specs.Following.{Follows, Grows, Writer, Reaches, Answers, counts}
 use Rattle.exchange_rules.specs.Rows.{Layout}
 use Rattle.exchange_rules.specs.Topics.{after_send, sends_course, stopped_by}
 use Rattle.exchange_rules.specs.declared.batch.BatchItem.{BatchItem}
@@ -28,7 +28,8 @@ use Rattle.exchange_rules.specs.declared.batch.Sent.{Sent}
 use Rattle.exchange_rules.specs.declared.fault.SiteFault.{SiteFault}
 use Rattle.exchange_rules.specs.declared.fault.SiteFault.TheVariants.{ShardFull, TopicBound, BookFull, OutOfMemory}
 use Rattle.exchange_rules.specs.declared.run.TopicFault.{TopicFault}
-use Rattle.exchange_rules.proofs.ReachLemmas.{reaches_none, reaches_join, reaches_then}
+use Rattle.exchange_rules.proofs.AppendedLemmas.{appended_join, appended_none, appended_then, stopped_at}
+use Rattle.exchange_rules.proofs.ReachLemmas.{reaches_join, reaches_then}
 use Rattle.site_laws.specs.SiteCells.{histories_in}
 use Rattle.site_laws.proofs.CellLemmas.{seen-grows}
 use Rattle.source_streams.specs.Batches.{given_names}
@@ -36,12 +37,13 @@ use Rattle.source_streams.specs.declared.batch.TopicItem.{TopicItem}
 use Rattle.expr_types.specs.Sources.{cut_to}
 use Rattle.update_sink.specs.Given.{AreGiven, AreThereNow, IsGiven, IsThereNow}
 use Rattle.update_sink.specs.Runs.{IsRun, IsStoppedBy}
-use Rattle.update_sink.specs.Sends.{IsSent, IsWant, Next, send_of, told_of, sunk_done}
+use Rattle.update_sink.specs.Sends.{IsSent, Next, send_of, told_of, sunk_done}
 use Rattle.update_sink.specs.declared.delivering.Done.{Done}
 use Rattle.update_sink.specs.Topics.{sent_item}
 use Rattle.update_sink.proofs.BatchLemmas.{batches_of-next}
 use Rattle.update_sink.proofs.ItemLemmas.{grown-of}
 use Rattle.update_sink.proofs.PartLemmas.{Looked, ended-of, looked-of, made-of}
+use Rattle.update_sink.proofs.StandLemmas.{IsCounted, appended-of, counted-batch, counted-sends, stand_sunk}
 
 module _ (old new : Writer) (l : Layout) (dest src : ByteList) (b : List BatchItem) (s : Sunk) where
   -- the course goes on after the delivery of its batch
@@ -59,71 +61,33 @@ module _ (old new : Writer) (l : Layout) (dest src : ByteList) (b : List BatchIt
       subst (λ (x : Sunk). Reaches old new (send_of l dest src b s next) (next x)) (sym is)
       (after (Ok sent) a next)
 
-  -- a batch was delivered, and memory was wanting then
-  pub sent-begun : (sent : Sent) (now : Sunk) (stand : ℕ)
-      → Answers old new (send_course l dest src b) (Ok sent)
-      → IsSent old new (send_of l dest src b s) now (Err (OutOfMemory stand))
-  sent-begun sent now stand a next =
-      (next (with_batch s (length b) sent.admitted), after (Ok sent) a next)
-
   -- a batch was refused, or memory was wanting in it
-  pub unsent : (c : List BatchItem) → c ≡ b → (fault : SiteFault)
+  pub unsent : (c : List BatchItem) → c ≡ b → (now : Sunk) → now ≡ s → (fault : SiteFault)
       → Answered old new (send_course l dest src c) (Err fault)
-      → IsSent old new (send_of l dest src b s) s (Err fault)
-  unsent c same fault a =
-      here fault (subst (λ (x : List BatchItem).
-      Answered old new (send_course l dest src x) (Err fault)) same a)
+      → IsSent old new (send_of l dest src b s) now (Err fault)
+  unsent c same now is fault a =
+      subst (λ (x : Sunk). IsSent old new (send_of l dest src b s) x (Err fault)) (sym is)
+      (here fault (subst (λ (x : List BatchItem).
+      Answered old new (send_course l dest src x) (Err fault)) same a))
     where
       here : (fault : SiteFault) → Answered old new (send_course l dest src b) (Err fault)
           → IsSent old new (send_of l dest src b s) s (Err fault)
       here (ShardFull c n k) a = λ next. after (Err (ShardFull c n k)) a next
       here (TopicBound kept) a = λ next. after (Err (TopicBound kept)) a next
       here (BookFull topics) a = λ next. after (Err (BookFull topics)) a next
-      here (OutOfMemory stand) a = λ next. (
-        and_then a.rest (after_send (length b) s next),
-        reaches_then old new (send_course l dest src b) a.rest (after_send (length b) s next)
-            a.stood.reached,
-      )
+      here (OutOfMemory stand) a = λ next. record {
+        rest = and_then a.rest (after_send (length b) s next);
+        writes = a.writes;
+        stood = appended_then old new (send_course l dest src b) a.rest
+            (after_send (length b) s next) a.writes a.stood;
+        counted = a.counted;
+      }
 
 -- memory was wanting before a batch was begun
-pub unsent-none : (w : Writer) (batch : Next → Course (Result Sunk TopicFault))
-    (now : Sunk) (stand : ℕ) → IsSent w w batch now (Err (OutOfMemory stand))
-unsent-none w batch now stand next = (batch next, reaches_none w (batch next))
-
--- a run that stopped with this fault, as it is told
-pub told-stopped : (start new : Writer) {A : Type 0} (course : Course (Result A TopicFault))
-    (s : Sunk) (fault : SiteFault) (told : TopicFault)
-    → (told ≡ stopped_by s fault) ⊎ IsWant told.fault
-    → Begins start new course
-    → (IsWant fault ⊎ Answers start new course (Err (stopped_by s fault)))
-    → IsStoppedBy start new course told told.fault
-told-stopped start new course s fault told t begun refused =
-    elim t [ inl e ↦ exact told e refused | inr want ↦ wanting told told.fault want ]
-  where
-    wanting : (x : TopicFault) (f : SiteFault) → IsWant f → IsStoppedBy start new course x f
-    wanting x (ShardFull c n k) w = absurd w
-    wanting x (TopicBound kept) w = absurd w
-    wanting x (BookFull topics) w = absurd w
-    wanting x (OutOfMemory stand) w = begun
-
-    answered : (x : TopicFault) (f : SiteFault) → Answers start new course (Err x)
-        → IsStoppedBy start new course x f
-    answered x (ShardFull c n k) a = a
-    answered x (TopicBound kept) a = a
-    answered x (BookFull topics) a = a
-    answered x (OutOfMemory stand) a = begun
-
-    exact : (x : TopicFault) → x ≡ stopped_by s fault
-        → (IsWant fault ⊎ Answers start new course (Err (stopped_by s fault)))
-        → IsStoppedBy start new course x x.fault
-    exact x e r =
-        let same : x.fault ≡ fault = ap (λ (y : TopicFault). y.fault) e in
-        elim r [
-          | inl want ↦
-              wanting x x.fault (subst IsWant (sym same) want)
-          | inr a ↦
-              answered x x.fault (subst (λ y. Answers start new course (Err y)) (sym e) a)
-        ]
+pub unsent-none : (w : Writer) (batch : Next → Course (Result Sunk TopicFault)) (now : Sunk)
+    → IsSent w w batch now (Err (OutOfMemory 0))
+unsent-none w batch now next =
+    stopped_at 0 w w (batch next) (batch next) (appended_none w (batch next))
 
 -- a list that is made of the front of another
 map-take : {X Y : Type 0} (f : X → Y) (n : ℕ) (xs : List X) → map f (take n xs) ≡ take n (map f xs)
@@ -193,37 +157,48 @@ module _ (start old new : Writer) (course : Course (Result Sunk TopicFault))
 
   -- the run stopped in a batch
   pub batch-unsent : (front : List TopicItem) (now : Sunk) (fault : SiteFault) (told : TopicFault)
-      → front ≡ take size rest
-      → (told ≡ stopped_by now fault) ⊎ IsWant told.fault
+      → front ≡ take size rest → now ≡ s → told ≡ stopped_by s fault
+      → IsCounted stand_sunk 0 course
       → Reaches start old course (sends_course here dest src s (batches_of size left))
       → IsSent old new (send_of there dest src (map (sent_item src) front) s) now (Err fault)
-      → IsStoppedBy start new course told told.fault
-  batch-unsent front now fault told is t r a =
-      let all = sent-here front now (Err fault) is a in
-      go fault t all
+      → IsRun start new course (Err told)
+  batch-unsent front now fault told is still t k r a =
+      subst (λ x. IsRun start new course (Err x)) (sym t)
+      (go fault (subst (λ (x : Sunk).
+      IsSent old new (send_of here dest src batch s) x (Err fault)) still
+      (sent-here front now (Err fault) is a)))
     where
-      refused : (f : SiteFault) → (told ≡ stopped_by now f) ⊎ IsWant told.fault
-          → Answers old new (send_of here dest src batch s next) (Err (stopped_by now f))
-          → IsStoppedBy start new course told told.fault
-      refused f t a =
-          let whole = reaches_join start old new course (send_of here dest src batch s next)
-          (ends (Err (stopped_by now f))) (begins r) a in
-          told-stopped start new course now f told t (ends (Err (stopped_by now f)), whole)
-          (inr whole)
+      course_of : Course (Result Sunk TopicFault)
+      course_of = send_of here dest src batch s next
 
-      go : (f : SiteFault) → (told ≡ stopped_by now f) ⊎ IsWant told.fault
-          → IsSent old new (send_of here dest src batch s) now (Err f)
-          → IsStoppedBy start new course told told.fault
-      go (ShardFull c n k) t a = refused (ShardFull c n k) t (a next)
-      go (TopicBound kept) t a = refused (TopicBound kept) t (a next)
-      go (BookFull topics) t a = refused (BookFull topics) t (a next)
-      go (OutOfMemory stand) t a =
+      refused : (f : SiteFault) → Answers old new course_of (Err (stopped_by s f))
+          → Answers start new course (Err (stopped_by s f))
+      refused f a =
+          reaches_join start old new course course_of (ends (Err (stopped_by s f))) (begins r) a
+
+      -- so many writes stand before it
+      before : HasAppended start old course course_of s.stand
+      before =
+          appended-of stand_sunk start old course course_of s.stand (begins r) k
+          (counted-batch here dest src batch s next (λ t.
+          counted-sends here dest src t
+          (batches_of size (map (sent_item src) (drop size rest)))))
+
+      go : (f : SiteFault) → IsSent old new (send_of here dest src batch s) s (Err f)
+          → IsStoppedBy start new course (stopped_by s f) f
+      go (ShardFull c n k) a = refused (ShardFull c n k) (a next)
+      go (TopicBound kept) a = refused (TopicBound kept) (a next)
+      go (BookFull topics) a = refused (BookFull topics) (a next)
+      go (OutOfMemory stand) a =
           let b = a next in
-          told-stopped start new course now (OutOfMemory stand) told t (
-            b.0,
-            reaches_join start old new course (send_of here dest src batch s next) b.0
-                (begins r) b.1,
-          ) (inl tt)
+          let count = b.counted in
+          record {
+            rest = b.rest;
+            writes = s.stand + b.writes;
+            stood = appended_join start old new course course_of b.rest s.stand b.writes before
+                b.stood;
+            counted = omega (arith, count);
+          }
 
 -- the run has delivered all of its batches
 pub sends-done : (start new : Writer) (course : Course (Result Sunk TopicFault))
@@ -426,15 +401,24 @@ store-reached E F old new names key upto rest r =
 pub done-run : (start new : Writer) (course : Course (Result Sunk TopicFault)) (l : Layout)
     (dest src : ByteList) (size : ℕ) (s : Sunk) (rest : List TopicItem)
     (r : Result Done TopicFault) → length rest ≡ 0
-    → IfOk r (λ d. sunk_done d ≡ told_sunk s) → IfErr r (λ x. IsWant x.fault)
+    → IfOk r (λ d. sunk_done d ≡ told_sunk s)
+    → IfErr r (λ x. x ≡ stopped_by s (OutOfMemory 0)) → IsCounted stand_sunk 0 course
     → Reaches start new course
     (sends_course l dest src s (batches_of size (map (sent_item src) rest)))
     → IsRun start new course (told_of r)
-done-run start new course l dest src size s rest (Ok d) e is want r =
+done-run start new course l dest src size s rest (Ok d) e is want k r =
     sends-done start new course l dest src size s rest (sunk_done d) e is r
-done-run start new course l dest src size s rest (Err x) e is want r =
-    told-stopped start new course s x.fault x (inr want)
-    (sends_course l dest src s (batches_of size (map (sent_item src) rest)), r) (inl want)
+done-run start new course l dest src size s rest (Err x) e is want k r =
+    let batches = batches_of size (map (sent_item src) rest) in
+    let left = sends_course l dest src s batches in
+    subst (λ y. IsRun start new course (Err y)) (sym want)
+    (record {
+      rest = left;
+      writes = s.stand;
+      stood = appended-of stand_sunk start new course left s.stand r k
+          (counted-sends l dest src s batches);
+      counted = omega arith;
+    })
 
 -- all items are there where those are that were before none
 pub there-all : (names : List NameShards) (seen : List Log) (dest src : ByteList)

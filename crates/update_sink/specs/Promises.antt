@@ -1,5 +1,5 @@
 -- What the run of a topic promises over what its writer has seen, and what it appends (own).
-use Rattle.std.specs.Prelude.{ℕ, ◌≡◌, ◌<◌, ◌≤◌, Bool, true, false, not, bytes_eq, count_by, List, ◌++◌, slice_index}
+use Rattle.std.specs.Prelude.{ℕ, ◌≡◌, ◌<◌, ◌≤◌, Bool, true, false, not, bytes_eq, count_by, List, ◌++◌, slice_index, Result, Ok, Err}
 use Rattle.std.specs.List.{AllByRecursion}
 use Rattle.tuple_values.specs.Document.{ByteList}
 use Rattle.tuple_values.specs.declared.names.NameShards.{NameShards}
@@ -10,12 +10,14 @@ use Rattle.topic_book.specs.Books.{checkpoint, same_key}
 use Rattle.topic_book.specs.declared.topic.BookEntry.TheVariants.{Bind, Store}
 use Rattle.topic_book.specs.declared.topic.TopicKey.{TopicKey}
 use Rattle.exchange_rules.specs.Accesses.{at_owns}
+use Rattle.exchange_rules.specs.Calls.{is_write}
 use Rattle.exchange_rules.specs.Cells.{Log}
 use Rattle.exchange_rules.specs.Following.{Writer}
 use Rattle.exchange_rules.specs.Rows.{Layout}
 use Rattle.exchange_rules.specs.Topics.{tops_of}
 use Rattle.exchange_rules.specs.declared.log_entry.LogEntry.{LogEntry}
 use Rattle.exchange_rules.specs.declared.log_entry.LogEntry.TheVariants as logged
+use Rattle.exchange_rules.specs.declared.run.TopicFault.{TopicFault}
 use Rattle.exchange_rules.specs.declared.run.TopicRun.{TopicRun}
 use Rattle.site_laws.specs.SiteCells.{histories_in}
 use Rattle.source_streams.specs.Batches.{topic_items}
@@ -70,6 +72,16 @@ pub record IsRunAlone (key : TopicKey) (src : ByteList) (old new : Writer) : Typ
 pub record IsUnstored (old new : Writer) : Type 0 where
   pub gained : Gained old new
   pub stores : count_by is_store (appended old new gained) ≡ 0
+
+-- just so many of the entries that the writer appended are writes
+pub record HasStood (old new : Writer) (writes : ℕ) : Type 0 where
+  pub gained : Gained old new
+  pub counted : writes ≡ count_by is_write (appended old new gained)
+
+-- how many of its writes stand, as a run tells
+abbrev pub stand_of : Result TopicRun TopicFault → ℕ
+stand_of (Ok run) = run.stand
+stand_of (Err stop) = stop.stand
 
 -- the item is above the checkpoint at its shard
 abbrev pub IsAbove : List ℕ → TopicItem → Type 0

@@ -1,19 +1,21 @@
 -- When the run of a topic followed its course (own).
 use Rattle.std.specs.Prelude.{Result, Ok, Err}
+use Rattle.exchange_rules.specs.Calls.{IsStopped}
 use Rattle.exchange_rules.specs.Courses.{Course}
-use Rattle.exchange_rules.specs.Following.{Writer, Answers, Begins}
+use Rattle.exchange_rules.specs.Following.{Writer, Answers}
 use Rattle.exchange_rules.specs.declared.fault.SiteFault.{SiteFault}
 use Rattle.exchange_rules.specs.declared.fault.SiteFault.TheVariants.{ShardFull, TopicBound, BookFull, OutOfMemory}
 use Rattle.exchange_rules.specs.declared.run.TopicFault.{TopicFault}
 
--- a run that stopped with this fault was refused as its course says, or memory was wanting
+-- a run that stopped with this fault was refused as its course says; or memory was wanting when so
+-- many writes stood as are told
 abbrev pub IsStoppedBy : {A : Type 0} → Writer → Writer → Course (Result A TopicFault) → TopicFault
     → SiteFault → Type 0
 IsStoppedBy old new course stopped (ShardFull collection shard stand) =
     Answers old new course (Err stopped)
 IsStoppedBy old new course stopped (TopicBound kept) = Answers old new course (Err stopped)
 IsStoppedBy old new course stopped (BookFull topics) = Answers old new course (Err stopped)
-IsStoppedBy old new course stopped (OutOfMemory stand) = Begins old new course
+IsStoppedBy old new course stopped (OutOfMemory stand) = IsStopped 0 old new course stopped.stand
 
 -- a run followed its course to this answer, was refused, or stopped
 abbrev pub IsRun : {A : Type 0} → Writer → Writer → Course (Result A TopicFault)

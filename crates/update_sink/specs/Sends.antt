@@ -7,10 +7,11 @@ use Rattle.topic_book.specs.declared.topic.TopicKey.{TopicKey}
 use Rattle.once_core.specs.Allowed.{MayStore}
 use Rattle.exchange_rules.specs.Batches.{Sunk, batches_of, none_sunk}
 use Rattle.exchange_rules.specs.Bindings.{store_course}
+use Rattle.exchange_rules.specs.Calls.{IsStopped}
 use Rattle.exchange_rules.specs.Cells.{Log}
 use Rattle.exchange_rules.specs.Courses.{Course, ends, and_then, and_ok}
 use Rattle.exchange_rules.specs.Deliveries.{send_course}
-use Rattle.exchange_rules.specs.Following.{Grows, Writer, Reaches, Answers, Begins}
+use Rattle.exchange_rules.specs.Following.{Grows, Writer, Reaches, Answers}
 use Rattle.exchange_rules.specs.Rows.{Layout}
 use Rattle.exchange_rules.specs.Topics.{after_send, sends_course, stopped_by}
 use Rattle.site_laws.specs.SiteCells.{histories_in}
@@ -33,7 +34,7 @@ abbrev pub send_of : Layout → (dest src : ByteList) → List BatchItem → Sun
     → Course (Result Sunk TopicFault)
 send_of l dest src b s next = and_then (send_course l dest src b) (after_send (length b) s next)
 
--- a batch was refused as its course says, or memory was wanting
+-- a batch was refused as its course says, or memory was wanting when so many of its writes stood
 abbrev pub IsUnsent : Writer → Writer → (Next → Course (Result Sunk TopicFault)) → Sunk
     → SiteFault → Type 0
 IsUnsent old new batch s (ShardFull collection shard stand) =
@@ -43,7 +44,8 @@ IsUnsent old new batch s (TopicBound kept) =
     (next : Next) → Answers old new (batch next) (Err (stopped_by s (TopicBound kept)))
 IsUnsent old new batch s (BookFull topics) =
     (next : Next) → Answers old new (batch next) (Err (stopped_by s (BookFull topics)))
-IsUnsent old new batch s (OutOfMemory stand) = (next : Next) → Begins old new (batch next)
+IsUnsent old new batch s (OutOfMemory stand) =
+    (next : Next) → IsStopped 0 old new (batch next) stand
 
 -- from old to new the writer followed the course of a batch, after which the run stands so: it goes
 -- on, or it was refused, or memory was wanting
@@ -51,13 +53,6 @@ abbrev pub IsSent : Writer → Writer → (Next → Course (Result Sunk TopicFau
     → Result (Unit {0}) SiteFault → Type 0
 IsSent old new batch after (Ok done) = (next : Next) → Reaches old new (batch next) (next after)
 IsSent old new batch after (Err fault) = IsUnsent old new batch after fault
-
--- memory was wanting
-abbrev pub IsWant : SiteFault → Type 0
-IsWant (ShardFull collection shard stand) = ⊥
-IsWant (TopicBound kept) = ⊥
-IsWant (BookFull topics) = ⊥
-IsWant (OutOfMemory stand) = Unit {0}
 
 -- what was delivered
 abbrev pub sunk_done : Done → Sunk

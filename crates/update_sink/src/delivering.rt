@@ -1,20 +1,21 @@
 // Batches of what a topic gives.
-ghost use Rattle.std.specs.Prelude.{◌≡◌, ◌≢◌, ◌<◌, ◌⊎◌, IfErr, IfOk, OnOk, map};
+ghost use Rattle.std.specs.Prelude.{◌≡◌, ◌≢◌, ◌+◌, ◌<◌, ◌^◌, IfErr, IfOk, OnErr, OnOk, map};
 ghost use Rattle.std.specs.List.{AllByRecursion};
 ghost use Rattle.tuple_values.specs.Document.{Rises};
 ghost use Rattle.topic_book.specs.Fitness.{shards_of};
-ghost use Rattle.exchange_rules.specs.Batches.{batches_of, none_sunk, told_sunk};
+ghost use Rattle.exchange_rules.specs.Batches.{batches_of, none_sunk, stand_in, told_sunk};
 ghost use Rattle.exchange_rules.specs.Topics.{sends_course, stopped_by};
+ghost use Rattle.exchange_rules.specs.declared.fault.SiteFault.TheVariants.{OutOfMemory};
 ghost use Rattle.source_streams.specs.declared.batch.TopicItem.{TopicItem};
 ghost use Rattle.update_sink.specs.Given.{AreGiven, AreThereNow};
 ghost use Rattle.update_sink.specs.Progresses.{sunk_of};
 ghost use Rattle.update_sink.specs.Runs.{IsRun};
-ghost use Rattle.update_sink.specs.Sends.{IsSent, IsWant, send_of, sunk_done, told_of};
+ghost use Rattle.update_sink.specs.Sends.{IsSent, send_of, sunk_done, told_of};
 ghost use Rattle.update_sink.specs.Topics.{sent_item};
 
 use crate::asking::Ask;
 use crate::parts::{behind, front};
-use crate::progress::{Progress, number, told};
+use crate::progress::{Progress, number, sum, told};
 use exchange_rules::{Batch, BatchItem, SiteFault, TopicFault};
 use io_edge::{Gate, Point};
 use source_streams::TopicItem;
@@ -59,7 +60,7 @@ fn batch_of(alloc: Global, src: &Text, items: &[TopicItem]) -> Result<Batch, Mem
     Ok(batch)
 }
 
-// A batch is delivered.
+// A batch is delivered. All that takes memory for what is told of it is made before.
 fn send_batch<T: Turns>(
     alloc: Global,
     site: &mut T,
@@ -77,42 +78,49 @@ fn send_batch<T: Turns>(
         (sunk_of progress.old)) (sunk_of progress.new) result }
     ensures there { OnOk result (AreThereNow (T.layout site.old).names (T.writer site.new).seen
         dest.now ask.now.src items.now) }
+    ensures err { OnErr result (sunk_of progress.new ≡ sunk_of progress.old) }
+    ensures fits { IfErr result (λ fault. progress.old.stand + stand_in fault < 2 ^ 64) }
     ensures layout { T.layout site.new ≡ T.layout site.old }
     ensures home { T.home site.new ≡ T.home site.old }
 {
+    let count = items.len() as u64;
+    let _most = sum(progress.stand, count)?;
     let batch = batch_of(alloc, &ask.src, items)?;
+    let told = progress.prepare(alloc, count)?;
     let sent = send_over(alloc, site, dest, &ask.src, batch)?;
-    progress.add(alloc, items.len() as u64, sent.admitted)?;
+    progress.add_told(told, count, sent.admitted);
     Ok(())
+}
+
+/// How many writes of a call stand that was refused so.
+pub(crate) fn stand_in(fault: &SiteFault) -> u64
+    ensures { result ≡ stand_in fault.now }
+{
+    match fault {
+        SiteFault::ShardFull { stand, .. } | SiteFault::OutOfMemory { stand } => *stand,
+        SiteFault::TopicBound { .. } | SiteFault::BookFull { .. } => 0,
+    }
 }
 
 // What is told of a run that stops.
 fn stopped(progress: Progress, fault: SiteFault) -> TopicFault
-    ensures { (result ≡ stopped_by (sunk_of progress) fault) ⊎ IsWant result.fault }
+    requires { progress.stand + stand_in fault < 2 ^ 64 }
+    ensures { result ≡ stopped_by (sunk_of progress) fault }
 {
-    let more = match &fault {
-        SiteFault::ShardFull { stand, .. } | SiteFault::OutOfMemory { stand } => *stand,
-        SiteFault::TopicBound { .. } | SiteFault::BookFull { .. } => 0,
-    };
-    match progress.stand.checked_add(more) {
-        Some(stand) => TopicFault {
-            summaries: progress.summaries,
-            stand,
-            fault,
-        },
-        None => TopicFault {
-            summaries: progress.summaries,
-            stand: progress.stand,
-            fault: SiteFault::OutOfMemory { stand: more },
-        },
+    let more = stand_in(&fault);
+    TopicFault {
+        summaries: Tuples::from_vec(progress.summaries),
+        stand: progress.stand + more,
+        fault,
     }
 }
 
-// What is told of a run whose batches are delivered.
+// What is told of a run whose batches are delivered. Memory can be wanting only where there was
+// none.
 fn make_done(alloc: Global, progress: Progress) -> Result<Done, TopicFault>
     ensures ok { IfOk result
         (λ done. sunk_done done ≡ told_sunk (sunk_of progress)) }
-    ensures err { IfErr result (λ stopped. IsWant stopped.fault) }
+    ensures err { IfErr result (λ stop. stop ≡ stopped_by (sunk_of progress) (OutOfMemory 0)) }
 {
     let (read, stand) = (progress.total, progress.stand);
     match told(alloc, progress.summaries) {

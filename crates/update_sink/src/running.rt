@@ -9,13 +9,13 @@ ghost use Rattle.exchange_rules.specs.Batches.{none_sunk};
 ghost use Rattle.exchange_rules.specs.Topics.{run_course, stopped_by};
 ghost use Rattle.update_sink.specs.Asks.{asked_by};
 ghost use Rattle.update_sink.specs.Given.{AreGiven, AreThereNow};
-ghost use Rattle.update_sink.specs.Promises.{HasReached, IsKept, IsRunAlone, IsUnstored};
+ghost use Rattle.update_sink.specs.Promises.{HasReached, HasStood, IsKept, IsRunAlone, IsUnstored, stand_of};
 ghost use Rattle.update_sink.specs.Runs.{IsRun};
 ghost use Rattle.update_sink.specs.Sends.{IsToldOf, MayFinish, finish_course};
 ghost use Rattle.update_sink.specs.Topics.{asked_of, batches_over, key_of, run_at, run_of, sink_in_tree, sink_of, topic_in_tree, topic_of, IsSinkThere, IsThere};
 
 use crate::asking::{Ask, ask_of};
-use crate::delivering::deliver_all;
+use crate::delivering::{deliver_all, stand_in};
 use crate::taking::{Taken, begin_topic, take_source};
 use exchange_rules::{SiteFault, TopicFault, TopicRun};
 use expr_check::Checked;
@@ -29,10 +29,7 @@ use tuple_values::{Text, TryCopy, Tuples, Versions};
 fn halted(alloc: Global, fault: SiteFault) -> TopicFault
     ensures { result ≡ stopped_by none_sunk fault }
 {
-    let stand = match &fault {
-        SiteFault::ShardFull { stand, .. } | SiteFault::OutOfMemory { stand } => *stand,
-        SiteFault::TopicBound { .. } | SiteFault::BookFull { .. } => 0,
-    };
+    let stand = stand_in(&fault);
     TopicFault {
         summaries: Tuples::empty(alloc),
         stand,
@@ -242,6 +239,9 @@ pub fn run_topic<T: Turns, G: Gate>(
     ensures alone { IsRunAlone (key_of (sink_of (tree_of checked.now)).topic)
         (sink_of (tree_of checked.now)).topic.collection (T.writer site.old) (T.writer site.new) }
     ensures unstored { OnErr result (IsUnstored (T.writer site.old) (T.writer site.new)) }
+
+    // Whatever the answer is, just so many writes of this call stand as it tells.
+    ensures stood { HasStood (T.writer site.old) (T.writer site.new) (stand_of result) }
     ensures free { T.free site.new }
     ensures layout { T.layout site.new ≡ T.layout site.old }
     ensures home { T.home site.new ≡ T.home site.old }

@@ -45,7 +45,7 @@ fn stopped(progress: Progress, halt: Halt) -> Result<Ran, Memory>
 {
     match progress.stand.checked_add(halt.stand) {
         Some(stand) => Ok(Ran {
-            summaries: progress.summaries,
+            summaries: Tuples::from_vec(progress.summaries),
             stand,
             fault: Some(halt.fault),
         }),

@@ -1,16 +1,17 @@
-use Rattle.std.proofs.Common.{◌≡◌, ◌<◌, ◌++◌, [], length, map, take, refl, sym, ap, ◌∙◌, subst, arith}
+use Rattle.std.proofs.Common.{◌≡◌, ◌+◌, ◌<◌, ◌^◌, ◌++◌, [], length, map, take, refl, sym, ap, ◌∙◌, subst, arith}
 use Rattle.std.proofs.lemmas.Grind.{common_steps}
 use Rattle.topic_book.specs.Fitness.{shards_of}
-use Rattle.exchange_rules.specs.Batches.{batches_of, none_sunk}
+use Rattle.exchange_rules.specs.Batches.{Sunk, batches_of, none_sunk, stand_in}
 use Rattle.exchange_rules.specs.Following.{Reaches}
 use Rattle.exchange_rules.specs.Rows.{Layout}
-use Rattle.exchange_rules.specs.Topics.{sends_course}
+use Rattle.exchange_rules.specs.Topics.{sends_course, stopped_by}
 use Rattle.exchange_rules.proofs.ReachLemmas.{reaches_none}
 use Rattle.update_sink.specs.Given.{AreGiven, AreThereNow}
 use Rattle.update_sink.specs.Progresses.{sunk_of}
 use Rattle.update_sink.specs.Sends.{send_of}
 use Rattle.update_sink.specs.Topics.{sent_item}
 use Rattle.update_sink.proofs.SendsLemmas.{batch-sent, batch-unsent, done-run, given-drop, given-later, given-take, sent-grown, there-all, there-later, there-more, whole-more}
+use Rattle.update_sink.proofs.StandLemmas.{counted-sends}
 use Rattle.update_sink.proofs.delivering.deliver_all.Goals as goal
 
 pub loop-rest-init : goal.loop-rest-init
@@ -65,8 +66,15 @@ returns-in-Err-clause-course g c =
     batch-unsent w mid new course l (g.T.Turns.layout c.loop-rest.site) dest src size
     (sunk_of c.loop-rest.progress) rest c.loop-rest.invariant.same c.requires.size filled
     c.front-batch.result.now (sunk_of c.send_batch.new.progress) c.in-Err.fault c.stopped.result
-    c.front-batch.ensures c.stopped.ensures c.loop-rest.invariant.reached
-    c.in-Err.ensures.course
+    c.front-batch.ensures c.in-Err.ensures.err
+    (c.stopped.ensures ∙ ap (λ (x : Sunk). stopped_by x c.in-Err.fault) c.in-Err.ensures.err)
+    (counted-sends l dest src none_sunk (batches_of size (map (sent_item src) c.args.items.now)))
+    c.loop-rest.invariant.reached c.in-Err.ensures.course
+
+pub stopped-requires : goal.stopped-requires
+stopped-requires g c =
+    subst (λ (x : Sunk). x.stand + stand_in c.in-Err.fault < 2 ^ 64) (sym c.in-Err.ensures.err)
+    c.in-Err.ensures.fits
 
 pub loop-rest-preserved : goal.loop-rest-preserved
 loop-rest-preserved g c =
@@ -124,7 +132,9 @@ returns-clause-course g c =
     let course = sends_course l dest src none_sunk
     (batches_of size (map (sent_item src) c.args.items.now)) in
     done-run w mid course l dest src size (sunk_of c.loop-rest.progress) rest c.make_done.result none
-    c.make_done.ensures.ok c.make_done.ensures.err c.loop-rest.invariant.reached
+    c.make_done.ensures.ok c.make_done.ensures.err
+    (counted-sends l dest src none_sunk (batches_of size (map (sent_item src) c.args.items.now)))
+    c.loop-rest.invariant.reached
 
 pub returns-clause-there : goal.returns-clause-there
 returns-clause-there g c =

@@ -28,7 +28,7 @@ returns-in-Err-clause-course g c =
     let taken = c.args.taken in
     let answer : Sunk → TopicRun = run_at c.args.before taken.cut taken.tops in
     unstarted w w w l c.args.ask.now.key c.args.dest.now c.args.ask.now.src c.args.size
-    taken.items taken.tops answer c.halted.result 0 c.halted.ensures
+    taken.items taken.tops answer c.halted.result c.halted.ensures
 
 pub returns-in_err-done-clause-course : goal.returns-in_err-done-clause-course
 returns-in_err-done-clause-course g c =
@@ -78,7 +78,7 @@ returns-in-Err-store_topic_over-clause-course g c =
     unfinished w mid new l c.args.ask.now.key c.args.dest.now c.args.ask.now.src c.args.size
     taken.items taken.tops answer c.as_slice.result.now c.as_slice.ensures
     (g.T.Turns.layout c.deliver_all.new.site).names c.in-Ok.upto (sunk_done c.in_ok-done.done) told
-    (ap (λ (x : Layout). x.names) c.in_ok-done.ensures.layout) c.in-Ok.ensures
+    (ap (λ (x : Layout). x.names) c.in_ok-done.ensures.layout) c.in-Ok.ensures (λ s. refl) refl
     c.in_ok-done.ensures.course c.in-Err-store_topic_over.ensures.course
 
 pub store_topic_over-requires : goal.store_topic_over-requires

@@ -27,7 +27,7 @@ returns-in-Err-clause-course g c =
     let l = g.T.Turns.layout c.args.site.now in
     let w = g.T.Turns.writer c.args.site.now in
     run-unasked w w l (topic_of (expr_tree c.args.topic.now)) c.args.dest.now c.args.size
-    c.halted.result 0 c.halted.ensures
+    c.halted.result c.halted.ensures
 
 pub returns-in-Err-begin_topic-clause-course : goal.returns-in-Err-begin_topic-clause-course
 returns-in-Err-begin_topic-clause-course g c =
