@@ -19,11 +19,22 @@ use tuple_values::{Memory, Text, Tuples};
 const DAEMONS: usize = 256;
 
 /// The board of daemons in memory, which tells what it holds.
-#[derive(Drop)]
 pub struct Board {
     daemons: Kept,
     put: u64,
     answers: Answers,
+}
+
+impl Drop for Board {
+    fn drop(self) {
+        let Board {
+            daemons,
+            put: _,
+            answers,
+        } = self;
+        drop(daemons);
+        drop(answers);
+    }
 }
 
 impl Model for Board {

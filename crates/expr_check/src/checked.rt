@@ -22,13 +22,30 @@ use tuple_values::{FieldList, Names};
 /// An expression that may be evaluated: each input has the order that its function needs. A contract
 /// sees the expression alone.
 #[cycle(checked)]
-#[derive(Drop)]
 pub struct Checked {
     expr: Expr,
     order: Order,
     fields: FieldList,
     collections: FieldList,
     within: Within,
+}
+
+impl Drop for Checked {
+    #[cycle(checked)]
+    fn drop(self) {
+        let Checked {
+            expr,
+            order,
+            fields,
+            collections,
+            within,
+        } = self;
+        drop(expr);
+        drop(order);
+        drop(fields);
+        drop(collections);
+        drop(within);
+    }
 }
 
 /// The checked input of a parallel: among how many workers its work is split, and by which sort what

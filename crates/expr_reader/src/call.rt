@@ -42,9 +42,16 @@ pub struct Call {
 
 /// Arguments in their order. A contract sees the list of their trees.
 #[cycle(calls)]
-#[derive(Drop)]
 pub struct Args {
     items: Vec<Arg>,
+}
+
+impl Drop for Args {
+    #[cycle(calls)]
+    fn drop(self) {
+        let Args { items } = self;
+        drop(items);
+    }
 }
 
 impl Model for Args {

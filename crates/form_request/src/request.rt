@@ -33,7 +33,6 @@ impl TryCopy for Param {
 }
 
 /// A whole request.
-#[derive(Drop)]
 pub struct Request {
     pub handler: Handler,
     /// The collection that the path names.
@@ -43,6 +42,22 @@ pub struct Request {
     pub body: Bytes,
     /// Whether the connection ends with this request.
     pub closes: bool,
+}
+
+impl Drop for Request {
+    fn drop(self) {
+        let Request {
+            handler,
+            collection,
+            params,
+            body,
+            closes: _,
+        } = self;
+        drop(handler);
+        drop(collection);
+        drop(params);
+        drop(body);
+    }
 }
 
 /// What a stream of requests answers.

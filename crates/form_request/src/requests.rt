@@ -13,13 +13,26 @@ use tuple_values::{Memory, Names};
 
 /// The requests of a byte stream. A contract sees where the stream stands and the bytes that came
 /// and weren't taken.
-#[derive(Drop)]
 pub struct Requests {
     buf: Vec<u8>,
     /// The bytes before this place were taken.
     from: usize,
     search: Search,
     stage: Stage,
+}
+
+impl Drop for Requests {
+    fn drop(self) {
+        let Requests {
+            buf,
+            from: _,
+            search,
+            stage,
+        } = self;
+        drop(buf);
+        drop(search);
+        drop(stage);
+    }
 }
 
 impl Model for Requests {

@@ -17,7 +17,6 @@ use tuple_values::{FieldList, Memory, Tuple};
 
 /// Makes one tuple of all tuples of a key, on an input on which they follow one another. It keeps
 /// the tuples of one key at a time.
-#[derive(Drop)]
 pub(crate) struct GroupKernel {
     alloc: Global,
     names: FieldList,
@@ -25,6 +24,24 @@ pub(crate) struct GroupKernel {
     run: Vec<Tuple>,
     held: Option<Tuple>,
     input: OneInput,
+}
+
+impl Drop for GroupKernel {
+    fn drop(self) {
+        let GroupKernel {
+            alloc: _,
+            names,
+            work,
+            run,
+            held,
+            input,
+        } = self;
+        drop(names);
+        drop(work);
+        drop(run);
+        drop(held);
+        drop(input);
+    }
 }
 
 impl GroupKernel {

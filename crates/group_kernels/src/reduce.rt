@@ -13,9 +13,15 @@ use std::alloc::Global;
 use tuple_values::{FieldList, Memory, TryCopy, Tuple};
 
 /// Gives for each key the first tuple of its group, with the first so many as the field `group`.
-#[derive(Drop)]
 pub struct ReduceKernel {
     groups: GroupKernel,
+}
+
+impl Drop for ReduceKernel {
+    fn drop(self) {
+        let ReduceKernel { groups } = self;
+        drop(groups);
+    }
 }
 
 impl ReduceKernel {

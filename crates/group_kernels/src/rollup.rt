@@ -14,9 +14,15 @@ use std::alloc::Global;
 use tuple_values::{FieldList, Memory, TryCopy, Tuple};
 
 /// Gives for each key its fields and the metrics of its tuples.
-#[derive(Drop)]
 pub struct RollupKernel {
     groups: GroupKernel,
+}
+
+impl Drop for RollupKernel {
+    fn drop(self) {
+        let RollupKernel { groups } = self;
+        drop(groups);
+    }
 }
 
 impl RollupKernel {

@@ -11,13 +11,26 @@ use std::alloc::Global;
 use tuple_values::{FieldList, Memory, TryCopy, Tuple};
 
 /// Gives the first tuple of each key of an input on which tuples of one key follow one another.
-#[derive(Drop)]
 pub struct UniqueKernel {
     over: FieldList,
     // The first of the run that goes on. It is given when the run has ended, so no copy is made.
     first: Option<Tuple>,
     held: Option<Tuple>,
     ended: bool,
+}
+
+impl Drop for UniqueKernel {
+    fn drop(self) {
+        let UniqueKernel {
+            over,
+            first,
+            held,
+            ended: _,
+        } = self;
+        drop(over);
+        drop(first);
+        drop(held);
+    }
 }
 
 impl UniqueKernel {

@@ -17,7 +17,6 @@ use tuple_values::{Memory, Tuple};
 /// Gives a left tuple over a right one for each two that are equal by pairs of fields, and a left
 /// tuple without an equal as it is where the join is outer. Input 0 gives the left tuples, input 1
 /// the right ones, which are read whole before the first left tuple.
-#[derive(Drop)]
 pub struct HashJoinKernel {
     alloc: Global,
     outer: bool,
@@ -28,6 +27,24 @@ pub struct HashJoinKernel {
     left: OneInput,
     // Whether all right tuples have come.
     whole: bool,
+}
+
+impl Drop for HashJoinKernel {
+    fn drop(self) {
+        let HashJoinKernel {
+            alloc: _,
+            outer: _,
+            on,
+            table,
+            held,
+            left,
+            whole: _,
+        } = self;
+        drop(on);
+        drop(table);
+        drop(held);
+        drop(left);
+    }
 }
 
 impl HashJoinKernel {

@@ -12,9 +12,16 @@ pub(crate) struct Slot {
 }
 
 /// Merges inputs, each in the order of one sort, into that order.
-#[derive(Drop)]
 pub struct MergeKernel {
     pub(crate) on: SortSpec,
     pub(crate) slots: Vec<Slot>,
     ghost narrow: { vec_len slots < 2 ^ 32 },
+}
+
+impl Drop for MergeKernel {
+    fn drop(self) {
+        let MergeKernel { on, slots } = self;
+        drop(on);
+        drop(slots);
+    }
 }

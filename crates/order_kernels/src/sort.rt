@@ -12,13 +12,26 @@ use std::mem;
 use tuple_values::{Memory, TryCopy, Tuple};
 
 /// Takes all tuples of its input, and gives them in order.
-#[derive(Drop)]
 pub struct SortKernel {
     alloc: Global,
     by: SortSpec,
     // From the end of the input on what is still to be given, the last in front.
     taken: Vec<Tuple>,
     input: OneInput,
+}
+
+impl Drop for SortKernel {
+    fn drop(self) {
+        let SortKernel {
+            alloc: _,
+            by,
+            taken,
+            input,
+        } = self;
+        drop(by);
+        drop(taken);
+        drop(input);
+    }
 }
 
 impl SortKernel {

@@ -7,7 +7,6 @@ use std::alloc::Global;
 use tuple_values::Tuple;
 
 /// Gives the first `n` tuples of its input by a sort. It keeps at most twice as many and one.
-#[derive(Drop)]
 pub struct TopKernel {
     pub(crate) alloc: Global,
     pub(crate) n: u64,
@@ -16,4 +15,19 @@ pub struct TopKernel {
     pub(crate) taken: Vec<Tuple>,
     pub(crate) input: OneInput,
     ghost few: { vec_len taken ≤ 2 * n + 1 },
+}
+
+impl Drop for TopKernel {
+    fn drop(self) {
+        let TopKernel {
+            alloc: _,
+            n: _,
+            sort,
+            taken,
+            input,
+        } = self;
+        drop(sort);
+        drop(taken);
+        drop(input);
+    }
 }

@@ -12,12 +12,25 @@ use std::alloc::Global;
 use tuple_values::{Memory, Tuple};
 
 /// Passes on the tuples of its input that meet a condition.
-#[derive(Drop)]
 pub struct HavingKernel {
     alloc: Global,
     condition: Condition,
     held: Option<Tuple>,
     input: OneInput,
+}
+
+impl Drop for HavingKernel {
+    fn drop(self) {
+        let HavingKernel {
+            alloc: _,
+            condition,
+            held,
+            input,
+        } = self;
+        drop(condition);
+        drop(held);
+        drop(input);
+    }
 }
 
 impl HavingKernel {

@@ -11,7 +11,6 @@ use std::alloc::Global;
 use tuple_values::{Memory, TryCopy, Tuple};
 
 /// Makes one tuple of each tuple of its input.
-#[derive(Drop)]
 pub struct SelectKernel {
     alloc: Global,
     items: Items,
@@ -19,6 +18,22 @@ pub struct SelectKernel {
     names: Tuple,
     held: Option<Tuple>,
     input: OneInput,
+}
+
+impl Drop for SelectKernel {
+    fn drop(self) {
+        let SelectKernel {
+            alloc: _,
+            items,
+            names,
+            held,
+            input,
+        } = self;
+        drop(items);
+        drop(names);
+        drop(held);
+        drop(input);
+    }
 }
 
 impl SelectKernel {

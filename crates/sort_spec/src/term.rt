@@ -26,9 +26,15 @@ impl TryCopy for SortTerm {
 
 /// A sort: terms, of which the first that tells two tuples apart decides. A contract sees the list
 /// of the terms. The sort of no term, which no text says, tells no tuples apart.
-#[derive(Drop)]
 pub struct SortSpec {
     terms: Sequence<SortTerm>,
+}
+
+impl Drop for SortSpec {
+    fn drop(self) {
+        let SortSpec { terms } = self;
+        drop(terms);
+    }
 }
 
 impl Model for SortSpec {

@@ -21,9 +21,15 @@ use std::thread::Threads;
 use tuple_values::{FieldList, Memory, Text, TryCopy, Tuple};
 
 /// The tuples of a search that are still to come. A contract sees the list of them.
-#[derive(Drop)]
 pub struct SearchCursor {
     rest: VecDeque<Tuple>,
+}
+
+impl Drop for SearchCursor {
+    fn drop(self) {
+        let SearchCursor { rest } = self;
+        drop(rest);
+    }
 }
 
 impl Model for SearchCursor {

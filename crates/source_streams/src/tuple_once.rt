@@ -9,9 +9,15 @@ use std::marker::Model;
 use tuple_values::{Memory, Tuple};
 
 /// One tuple, and then the end. A contract sees the list of what is still to come.
-#[derive(Drop)]
 pub struct TupleOnce {
     rest: Option<Tuple>,
+}
+
+impl Drop for TupleOnce {
+    fn drop(self) {
+        let TupleOnce { rest } = self;
+        drop(rest);
+    }
 }
 
 impl Model for TupleOnce {

@@ -17,10 +17,17 @@ use tuple_values::{Memory, Tuple, Tuples};
 /// A source, or a kernel over the streams of its inputs. A contract sees the list that is still to
 /// come, how deep the stream nests, and whether memory was wanting.
 #[cycle(streams)]
-#[derive(Drop)]
 pub struct Stream {
     node: Node,
     failed: bool,
+}
+
+impl Drop for Stream {
+    #[cycle(streams)]
+    fn drop(self) {
+        let Stream { node, failed: _ } = self;
+        drop(node);
+    }
 }
 
 #[cycle(streams)]

@@ -37,7 +37,6 @@ use topic_book::{Binding, BookEntry, BookFault, BookState, TopicKey};
 use tuple_values::{FieldList, Memory, Names, Text, Versions, Writes};
 
 /// Histories in memory that one writer alone looks at and writes to. Its number is 1.
-#[derive(Drop)]
 pub struct PlainSite {
     alloc: Global,
     names: Names,
@@ -47,6 +46,27 @@ pub struct PlainSite {
     marks: Vec<CutMark>,
     own: Vec<OwnMark>,
     looks: Vec<u64>,
+}
+
+impl Drop for PlainSite {
+    fn drop(self) {
+        let PlainSite {
+            alloc: _,
+            names,
+            limit: _,
+            shards,
+            book,
+            marks,
+            own,
+            looks,
+        } = self;
+        drop(names);
+        drop(shards);
+        drop(book);
+        drop(marks);
+        drop(own);
+        drop(looks);
+    }
 }
 
 impl Model for PlainSite {

@@ -13,27 +13,6 @@ loop-entry-preserved-in-Continue-branch-2 c =
     c.as_slice.result.now c.in-Some.entry c.in_ok-is_admitted.field-0 true c.as_slice.ensures
     c.in_ok-is_admitted.ensures c.if-branch.true)
 
-pub loop-entry-preserved-else-branch : goal.loop-entry-preserved-else-branch
-loop-entry-preserved-else-branch c =
-    kept_same c.args.shard.now.entries c.loop-entry.kept c.loop-entry.yielded c.in-Some.entry
-    c.loop-entry.invariant (admits_as c.args.shard.now.entries c.loop-entry.kept
-    c.as_slice.result.now c.in-Some.entry c.in_ok-is_admitted.field-0 false c.as_slice.ensures
-    c.in_ok-is_admitted.ensures c.if-branch.false)
-
-pub loop-entry-preserved-else-branch-2 : goal.loop-entry-preserved-else-branch-2
-loop-entry-preserved-else-branch-2 c =
-    kept_same c.args.shard.now.entries c.loop-entry.kept c.loop-entry.yielded c.in-Some.entry
-    c.loop-entry.invariant (admits_as c.args.shard.now.entries c.loop-entry.kept
-    c.as_slice.result.now c.in-Some.entry c.in_ok-is_admitted.field-0 false c.as_slice.ensures
-    c.in_ok-is_admitted.ensures c.if-branch.false)
-
-pub loop-entry-preserved-else-branch-3 : goal.loop-entry-preserved-else-branch-3
-loop-entry-preserved-else-branch-3 c =
-    kept_same c.args.shard.now.entries c.loop-entry.kept c.loop-entry.yielded c.in-Some.entry
-    c.loop-entry.invariant (admits_as c.args.shard.now.entries c.loop-entry.kept
-    c.as_slice.result.now c.in-Some.entry c.in_ok-is_admitted.field-0 false c.as_slice.ensures
-    c.in_ok-is_admitted.ensures c.if-branch.false)
-
 pub loop-entry-preserved : goal.loop-entry-preserved
 loop-entry-preserved c =
     kept_same c.args.shard.now.entries c.loop-entry.kept c.loop-entry.yielded c.in-Some.entry
