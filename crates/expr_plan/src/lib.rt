@@ -5,6 +5,7 @@ mod building;
 mod conditions;
 mod fault;
 mod function;
+mod given_items;
 mod groups;
 mod helpers;
 mod items;

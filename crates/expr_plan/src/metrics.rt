@@ -5,7 +5,7 @@ ghost use Rattle.expr_types.specs.Groups.{metric_name};
 ghost use Rattle.expr_plan.specs.Items.{metric_of_field, metric_over, metric_called, metric_of_call, metric_of_arg, metric_names};
 
 use crate::Metric;
-use crate::param::push_some;
+use crate::given_items::push_some;
 use crate::words::{is_field, plain_at};
 use expr_reader::{Arg, Args, Call};
 use std::alloc::Global;

@@ -1,14 +1,14 @@
 // What the arguments of a call give.
 ghost use Rattle.std.specs.Prelude.{◌≡◌, ◌++◌, ◌∷◌, [], OnOk, OnErr, IfOk, MatchOption, Some, None};
-ghost use Rattle.std.specs.List.{cons_option};
-ghost use Rattle.expr_plan.specs.Given.{is_given, param_at, taken, text_in, names_in, sort_in, pairs_in, query_in, kept_query_in, kept_text_in, number_in, count_or, small_in, flag_in, group_in, item_in, metric_of_param, metric_in, items_in, metrics_in, names_maybe};
+ghost use Rattle.expr_plan.specs.Given.{is_given, param_at, taken, text_in, names_in, sort_in, pairs_in, query_in, kept_query_in, kept_text_in, number_in, count_or, small_in, flag_in, group_in, items_in, metrics_in, names_maybe};
 
+use crate::given_items::{item_in, metric_in, push_some};
 use crate::{Condition, GroupOp, Item, Items, Metric, Metrics};
 use query_syntax::{Clauses, Query};
 use sort_spec::{OnSpec, SortSpec};
 use std::alloc::Global;
 use std::mem;
-use tuple_values::{FieldList, Memory, Sequence, Text, Value};
+use tuple_values::{FieldList, Memory, Text, Value};
 
 /// What a parameter is read as.
 #[derive(Drop)]
@@ -356,54 +356,6 @@ fn take(items: &mut [Given], name: &str) -> Param
             } else {
                 take(rest, name)
             }
-        }
-    }
-}
-
-/// Adds an item at the end, where there is one.
-pub(crate) fn push_some<T: Drop>(items: &mut Sequence<T>, item: Option<T>) -> Result<(), Memory>
-    ensures { OnOk result (items.new ≡ items.old ++ cons_option item []) }
-{
-    match item {
-        Some(item) => items.push(item),
-        None => Ok(()),
-    }
-}
-
-fn item_in(given: Given) -> Option<Item>
-    ensures { result ≡ item_in given.param }
-{
-    let Given { name, param } = given;
-    drop(name);
-    match param {
-        Param::Item(item) => Some(item),
-        rest => {
-            drop(rest);
-            None
-        }
-    }
-}
-
-fn metric_in(given: Given) -> Option<Metric>
-    ensures { result ≡ metric_in given }
-{
-    let Given { name, param } = given;
-    if name.as_str() == "metric" {
-        metric_of(param)
-    } else {
-        drop(param);
-        None
-    }
-}
-
-fn metric_of(param: Param) -> Option<Metric>
-    ensures { result ≡ metric_of_param param }
-{
-    match param {
-        Param::Metric(metric) => Some(metric),
-        rest => {
-            drop(rest);
-            None
         }
     }
 }

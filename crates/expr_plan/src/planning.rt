@@ -16,8 +16,9 @@ ghost use Rattle.expr_plan.specs.declared.row.Place.TheVariants.{Alone};
 
 use crate::building::expression;
 use crate::function::function_of;
+use crate::given_items::push_some;
 use crate::helpers::{is_input, made_names};
-use crate::param::{Params, push_some};
+use crate::param::Params;
 use crate::row::{Function, Place};
 use crate::walk::{inputs_found, params_of};
 use crate::{Expr, Exprs, PlanFault};

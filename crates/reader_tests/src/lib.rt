@@ -4,6 +4,8 @@
 #[cfg(test)]
 mod making;
 #[cfg(test)]
+mod of_expr_limits;
+#[cfg(test)]
 mod of_expr_reader;
 #[cfg(test)]
 mod of_form_request;
@@ -15,3 +17,5 @@ mod of_query_syntax;
 mod of_sort_spec;
 #[cfg(test)]
 mod request_samples;
+#[cfg(test)]
+mod shown_calls;

@@ -2,7 +2,7 @@
 use crate::making::put_text;
 use crate::of_query_syntax::Ask;
 use crate::of_query_syntax::Ask::{Prefix, Present, Range, Word};
-use query_syntax::{Clause, Query, QueryFault, Role, Test, What, read_query};
+use query_syntax::{Clause, Query, QueryFault, Role, Term, Test, What, read_query};
 use std::alloc::Global;
 use std::process::Abort;
 use std::test::Fail;
@@ -68,7 +68,7 @@ const READINGS: [(&str, &str, Ask); 32] = [
     ("a:\"\\\u{e9}\"", "a", Word("\u{e9}")),
 ];
 
-fn is_bound(found: &Option<Text>, want: Option<&str>) -> bool {
+fn is_bound(found: &Option<Term>, want: Option<&str>) -> bool {
     match (found, want) {
         (None, None) => true,
         (Some(found), Some(want)) => found.as_str() == want,

@@ -1,6 +1,6 @@
 // Tests of the matching of query_syntax, by values worked by hand from the rules of queries.
 use crate::making::{Plain, put};
-use query_syntax::{Clause, Clauses, Query, QueryFault, Role, Test, What};
+use query_syntax::{Clause, Clauses, Query, QueryFault, Role, Term, Test, What};
 use std::alloc::Global;
 use tuple_values::{Memory, Text, Tuple};
 
@@ -15,10 +15,10 @@ pub enum Ask {
 
 use Ask::{Prefix, Present, Range, Word};
 
-fn bound_of(alloc: Global, bound: Option<&str>) -> Result<Option<Text>, Memory> {
+fn bound_of(alloc: Global, bound: Option<&str>) -> Result<Option<Term>, Memory> {
     match bound {
         None => Ok(None),
-        Some(text) => Ok(Some(Text::of(alloc, text)?)),
+        Some(text) => Ok(Some(Term::of(Text::of(alloc, text)?))),
     }
 }
 
@@ -40,7 +40,7 @@ fn range_of(
 
 fn test_of(alloc: Global, ask: Ask) -> Result<Test, Memory> {
     match ask {
-        Word(word) => Ok(Test::Word(Text::of(alloc, word)?)),
+        Word(word) => Ok(Test::Word(Term::of(Text::of(alloc, word)?))),
         Prefix(word) => Ok(Test::Prefix(Text::of(alloc, word)?)),
         Present => Ok(Test::Present),
         Range(low, low_in, high, high_in) => range_of(alloc, (low, high), low_in, high_in),

@@ -3,6 +3,7 @@
 #![tactic(auto)]
 
 mod case;
+mod texts;
 
 use case::{answer, begin};
 use std::alloc::Global;

@@ -12,4 +12,6 @@ mod of_json_text;
 #[cfg(test)]
 mod of_kernel_laws;
 #[cfg(test)]
+mod of_texts;
+#[cfg(test)]
 mod of_tuple_values;

@@ -1,6 +1,6 @@
 // The tuples that the tests of several crates are over.
 use std::alloc::Global;
-use tuple_values::{Memory, Text, Tuple, Value};
+use tuple_values::{FieldList, Memory, Text, Tuple, Value};
 
 pub fn put_text(alloc: Global, tuple: &mut Tuple, name: &str, text: &str) -> Result<(), Memory> {
     let value = Value::Text(Text::of(alloc, text)?);
@@ -16,4 +16,18 @@ pub fn long_tuple(alloc: Global, name: &str, n: i64) -> Result<Tuple, Memory> {
     let mut tuple = Tuple::empty(alloc);
     put_long(alloc, &mut tuple, name, n)?;
     Ok(tuple)
+}
+
+fn push_names(alloc: Global, list: &mut FieldList, all: &str) -> Result<(), Memory> {
+    for name in all.split(' ') {
+        list.push(Text::of(alloc, name)?)?;
+    }
+    Ok(())
+}
+
+/// The names, with a space between each and the next.
+pub(crate) fn names(alloc: Global, all: &str) -> Result<FieldList, Memory> {
+    let mut list = FieldList::new(alloc);
+    push_names(alloc, &mut list, all)?;
+    Ok(list)
 }
