@@ -1,0 +1,5 @@
+pub mod DiskLemmas
+pub mod CallsLemmas
+pub mod MemoryLemmas
+pub mod PlacesLemmas
+pub mod StopsLemmas

@@ -1,0 +1,9 @@
+pub mod Disk
+pub mod Calls
+pub mod Moments
+pub mod Memory
+pub mod Files
+pub mod Folder
+pub mod Places
+pub mod Folders
+pub mod Stops
