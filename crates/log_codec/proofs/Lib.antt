@@ -1,0 +1,13 @@
+pub mod BindingLemmas
+pub mod BookLemmas
+pub mod CodeLemmas
+pub mod EntryLemmas
+pub mod FieldLemmas
+pub mod GroupLemmas
+pub mod HeadLemmas
+pub mod PairLemmas
+pub mod ReadLemmas
+pub mod RiseLemmas
+pub mod StepLemmas
+pub mod ValueLemmas
+pub mod WriteLemmas
