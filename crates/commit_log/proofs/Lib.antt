@@ -1,0 +1,5 @@
+pub mod FrameLemmas
+pub mod StepLemmas
+pub mod FileLemmas
+pub mod StopLemmas
+pub mod LogLemmas
