@@ -1,3 +1,4 @@
+pub use Rattle.root_runs.specs.Stays
 pub mod Steps
 pub mod Stepped
 pub mod Runs

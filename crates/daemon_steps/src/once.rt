@@ -5,10 +5,11 @@ ghost use Rattle.expr_check.specs.Parts.{input_of};
 ghost use Rattle.expr_check.specs.Views.{tree_of};
 ghost use Rattle.daemon_steps.specs.Runs.{IsFollowed};
 ghost use Rattle.daemon_steps.specs.Steps.{once_course};
+ghost use Rattle.root_runs.specs.Stays.{Stays};
 
 use expr_check::Checked;
 use io_edge::Gate;
-use root_runs::run_root;
+use root_runs::{run_root, take_record_over};
 use std::alloc::Global;
 use std::thread::Threads;
 use stream_site::Turns;
@@ -21,7 +22,8 @@ pub(crate) struct Once {
     pub(crate) fault: Option<Text>,
 }
 
-/// Runs the input of an expression once. The site's record begins anew.
+/// Runs the input of an expression once. The site's record begins anew. The writer has no turn
+/// afterwards.
 pub(crate) fn run_once<T: Turns, R: Threads + Sync, G: Gate>(
     alloc: Global,
     rt: &R,
@@ -33,11 +35,11 @@ pub(crate) fn run_once<T: Turns, R: Threads + Sync, G: Gate>(
         (once_course (T.layout site.old) (input_of (tree_of checked.now)))) }
     ensures err { IfErr result (λ _. Begins (cleared (T.writer site.old)) (T.writer site.new)
         (once_course (T.layout site.old) (input_of (tree_of checked.now)))) }
-    ensures layout { T.layout site.new ≡ T.layout site.old }
-    ensures home { T.home site.new ≡ T.home site.old }
+    ensures stays { Stays T.layout T.home T.free site.old site.new }
+    ensures free { T.free site.new }
 {
     let Some(input) = checked.input() else {
-        let _ = site.take_record();
+        let _ = take_record_over(site);
         return Ok(Once {
             read: 1,
             fault: None,

@@ -2,6 +2,7 @@
 ghost use Rattle.std.specs.Prelude.{◌≡◌, IfOk, OnErr};
 ghost use Rattle.daemon_board.specs.Rising.{IsResting};
 ghost use Rattle.daemon_steps.specs.Runs.{HasTurn, IsTurnCut};
+ghost use Rattle.root_runs.specs.Stays.{Stays};
 
 use crate::once::{Once, run_once};
 use daemon_board::{Board, Daemons};
@@ -27,8 +28,7 @@ pub(crate) fn run_next<T: Turns, R: Threads + Sync, G: Gate>(
     ensures err { OnErr result (IsTurnCut (T.layout site.old) (T.writer site.old)
         (T.writer site.new) board.old.shown board.new.shown after) }
     ensures answers { board.new.answers ≡ board.old.answers }
-    ensures layout { T.layout site.new ≡ T.layout site.old }
-    ensures home { T.home site.new ≡ T.home site.old }
+    ensures stays { Stays T.layout T.home T.free site.old site.new }
 {
     let Some(claim) = board.claim_next(after) else {
         return Ok(None);

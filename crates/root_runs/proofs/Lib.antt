@@ -1,3 +1,4 @@
+pub mod StaysLemmas
 pub mod PlainLemmas
 pub mod CarriedLemmas
 pub mod DeedLemmas

@@ -1,3 +1,4 @@
+pub mod Stays
 pub mod Lists
 pub mod Deeds
 pub mod Views

@@ -10,6 +10,7 @@ ghost use Rattle.root_runs.specs.Dones.{committed, passed};
 ghost use Rattle.root_runs.specs.Runs.{commit_over, inner_by, reads_then, then_commits};
 ghost use Rattle.root_runs.specs.Texts.{Told};
 ghost use Rattle.root_runs.specs.Views.{deed_told};
+ghost use Rattle.root_runs.specs.Stays.{Stays};
 
 use crate::Done;
 use crate::deed::{Deed, deed_of};
@@ -67,8 +68,7 @@ fn commit_round<T: Turns>(
 ) -> Result<Done, Memory>
     ensures course { Carried (T.writer site.old) (T.writer site.new)
         (then_commits (T.layout site.old) dest.now batch_size summaries done) result }
-    ensures layout { T.layout site.new ≡ T.layout site.old }
-    ensures home { T.home site.new ≡ T.home site.old }
+    ensures stays { Stays T.layout T.home T.free site.old site.new }
 {
     if done.exception.is_some() {
         return Ok(done);
@@ -89,8 +89,7 @@ fn pass_plain<T: Turns, R: Threads + Sync, G: Gate>(
 ) -> Result<Done, Memory>
     ensures course { Carried (T.writer site.old) (T.writer site.new)
         (reads_then (T.layout site.old) (tree_of input.now) (λ docs. ends (passed docs))) result }
-    ensures layout { T.layout site.new ≡ T.layout site.old }
-    ensures home { T.home site.new ≡ T.home site.old }
+    ensures stays { Stays T.layout T.home T.free site.old site.new }
 {
     let expr = input.expr();
     if !is_plain(expr) {
@@ -111,8 +110,7 @@ fn run_inner<T: Turns, R: Threads + Sync, G: Gate>(
     ensures course { Carried (T.writer site.old) (T.writer site.new)
         (inner_by (T.layout site.old) (tree_of input.now)
         (deed_of (operator_in (tree_of input.now)))) result }
-    ensures layout { T.layout site.new ≡ T.layout site.old }
-    ensures home { T.home site.new ≡ T.home site.old }
+    ensures stays { Stays T.layout T.home T.free site.old site.new }
 {
     let expr = input.expr();
     match deed_of(expr) {
@@ -138,8 +136,7 @@ fn commit_input<T: Turns, R: Threads + Sync, G: Gate>(
 ) -> Result<Done, Memory>
     ensures course { Carried (T.writer site.old) (T.writer site.new)
         (commit_over (T.layout site.old) dest.now batch_size (Some (tree_of input.now))) result }
-    ensures layout { T.layout site.new ≡ T.layout site.old }
-    ensures home { T.home site.new ≡ T.home site.old }
+    ensures stays { Stays T.layout T.home T.free site.old site.new }
 {
     let summaries = gives_summaries(&deed_of(input.expr()));
     let done = run_inner(alloc, rt, site, input, gate)?;
@@ -159,8 +156,7 @@ pub(crate) fn run_commit_of<T: Turns, R: Threads + Sync, G: Gate>(
     ensures course { Carried (T.writer site.old) (T.writer site.new)
         (commit_over (T.layout site.old) dest.now batch_size (input_of (tree_of checked.now)))
         result }
-    ensures layout { T.layout site.new ≡ T.layout site.old }
-    ensures home { T.home site.new ≡ T.home site.old }
+    ensures stays { Stays T.layout T.home T.free site.old site.new }
 {
     match checked.input() {
         Some(input) => commit_input(alloc, rt, site, dest, batch_size, input, gate),

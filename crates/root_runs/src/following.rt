@@ -10,6 +10,7 @@ ghost use Rattle.root_runs.specs.Runs.{deliver_course, follow_course, root_by, w
 ghost use Rattle.root_runs.specs.Texts.{Told};
 ghost use Rattle.topic_book.specs.Fitness.{shards_of};
 ghost use Rattle.update_sink.specs.Topics.{sink_of, topic_of};
+ghost use Rattle.root_runs.specs.Stays.{Stays};
 
 use crate::Done;
 use crate::texts::topic_told;
@@ -72,8 +73,7 @@ fn follow_there<T: Turns>(
         (follow_course (T.layout site.old)
         (record { checkpoints = checkpoints.now; id = id.now }) (topic_of (tree_of checked.now)))
         result }
-    ensures layout { T.layout site.new ≡ T.layout site.old }
-    ensures home { T.home site.new ≡ T.home site.old }
+    ensures stays { Stays T.layout T.home T.free site.old site.new }
 {
     match read_topic(alloc, site, checked) {
         Ok(read) => Ok(Done::given(read.tuples)),
@@ -97,8 +97,7 @@ pub(crate) fn run_follow<T: Turns>(
         (follow_course (T.layout site.old)
         (record { checkpoints = checkpoints.now; id = id.now }) (topic_of (tree_of checked.now))))
         result }
-    ensures layout { T.layout site.new ≡ T.layout site.old }
-    ensures home { T.home site.new ≡ T.home site.old }
+    ensures stays { Stays T.layout T.home T.free site.old site.new }
 {
     if !is_there(site, checkpoints) {
         return Done::unknown(alloc, checkpoints);
@@ -133,8 +132,7 @@ fn deliver_there<T: Turns, G: Gate>(
         (deliver_course (T.layout site.old)
         (record { checkpoints = checkpoints.now; id = id.now }) (sink_of (tree_of checked.now)))
         result }
-    ensures layout { T.layout site.new ≡ T.layout site.old }
-    ensures home { T.home site.new ≡ T.home site.old }
+    ensures stays { Stays T.layout T.home T.free site.old site.new }
 {
     match run_topic(alloc, site, checked, gate) {
         Ok(run) => Ok(Done {
@@ -170,8 +168,7 @@ pub(crate) fn run_delivery<T: Turns, G: Gate>(
         (deliver_course (T.layout site.old)
         (record { checkpoints = checkpoints.now; id = id.now }) (sink_of (tree_of checked.now))))
         result }
-    ensures layout { T.layout site.new ≡ T.layout site.old }
-    ensures home { T.home site.new ≡ T.home site.old }
+    ensures stays { Stays T.layout T.home T.free site.old site.new }
 {
     if !is_there(site, checkpoints) {
         return Done::unknown(alloc, checkpoints);

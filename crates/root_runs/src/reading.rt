@@ -5,6 +5,7 @@ ghost use Rattle.expr_types.specs.Plain.{IsPlain};
 ghost use Rattle.exchange_rules.specs.Calls.{Carried};
 ghost use Rattle.root_runs.specs.Lists.{list_over};
 ghost use Rattle.root_runs.specs.Runs.{list_course};
+ghost use Rattle.root_runs.specs.Stays.{Stays};
 
 use expr_check::Checked;
 use io_edge::Gate;
@@ -41,8 +42,8 @@ pub fn run_plain<T: Turns, R: Threads + Sync, G: Gate>(
     requires { IsPlain (tree_of checked.now) }
     ensures course { Carried (T.writer site.old) (T.writer site.new)
         (list_course (T.layout site.old) (tree_of checked.now)) result }
-    ensures layout { T.layout site.new ≡ T.layout site.old }
-    ensures home { T.home site.new ≡ T.home site.old }
+    ensures stays { Stays T.layout T.home T.free site.old site.new }
+    ensures free { T.free site.new }
 {
     match take_cut_over(alloc, site, checked.collections()) {
         Ok(cut) => evaluate(alloc, rt, checked, &cut, gate),

@@ -7,6 +7,7 @@ ghost use Rattle.expr_check.specs.Views.{tree_of};
 ghost use Rattle.root_runs.specs.Dones.{given};
 ghost use Rattle.root_runs.specs.Rooted.{IsRun};
 ghost use Rattle.root_runs.specs.Runs.{reads_then, root_course};
+ghost use Rattle.root_runs.specs.Stays.{Stays};
 
 use crate::Done;
 use crate::committing::run_commit_of;
@@ -14,6 +15,7 @@ use crate::deed::{Deed, deed_of};
 use crate::following::run_follow;
 use crate::plain::is_plain;
 use crate::reading::run_plain;
+use crate::record::take_record_over;
 use crate::updating::run_update_of;
 use expr_check::Checked;
 use io_edge::Gate;
@@ -33,8 +35,7 @@ fn give_plain<T: Turns, R: Threads + Sync, G: Gate>(
 ) -> Result<Done, Memory>
     ensures course { Carried (T.writer site.old) (T.writer site.new)
         (reads_then (T.layout site.old) (tree_of checked.now) (λ docs. ends (given docs))) result }
-    ensures layout { T.layout site.new ≡ T.layout site.old }
-    ensures home { T.home site.new ≡ T.home site.old }
+    ensures stays { Stays T.layout T.home T.free site.old site.new }
 {
     let expr = checked.expr();
     if !is_plain(expr) {
@@ -55,8 +56,7 @@ pub fn run_deed<T: Turns, R: Threads + Sync, G: Gate>(
 ) -> Result<Done, Memory>
     ensures course { Carried (T.writer site.old) (T.writer site.new)
         (root_course (T.layout site.old) (tree_of checked.now)) result }
-    ensures layout { T.layout site.new ≡ T.layout site.old }
-    ensures home { T.home site.new ≡ T.home site.old }
+    ensures stays { Stays T.layout T.home T.free site.old site.new }
 {
     match deed_of(checked.expr()) {
         Deed::Reads => give_plain(alloc, rt, site, checked, gate),
@@ -88,7 +88,8 @@ pub struct RootRun {
 }
 
 /// Carries out an expression at the site. The site's record begins anew, and is the run's at the end.
-/// Where memory is wanting, what was done so far stands in the record.
+/// Where memory is wanting, what was done so far stands in the record. The writer has no turn
+/// afterwards.
 pub fn run_root<T: Turns, R: Threads + Sync, G: Gate>(
     alloc: Global,
     rt: &R,
@@ -100,12 +101,12 @@ pub fn run_root<T: Turns, R: Threads + Sync, G: Gate>(
         (tree_of checked.now)) }
     ensures err { IfErr result (λ _. Begins (cleared (T.writer site.old)) (T.writer site.new)
         (root_course (T.layout site.old) (tree_of checked.now))) }
-    ensures layout { T.layout site.new ≡ T.layout site.old }
-    ensures home { T.home site.new ≡ T.home site.old }
+    ensures stays { Stays T.layout T.home T.free site.old site.new }
+    ensures free { T.free site.new }
 {
-    let _ = site.take_record();
+    let _ = take_record_over(site);
     let done = run_deed(alloc, rt, site, checked, gate)?;
-    let record = site.take_record();
+    let record = take_record_over(site);
     Ok(RootRun {
         docs: done.docs,
         exception: done.exception,

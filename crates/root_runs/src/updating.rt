@@ -9,6 +9,7 @@ ghost use Rattle.root_runs.specs.Deeds.{deed_of, writes};
 ghost use Rattle.root_runs.specs.Texts.{run_told};
 ghost use Rattle.expr_types.specs.ExprTree.{operator_in};
 ghost use Rattle.topic_book.specs.Fitness.{shards_of};
+ghost use Rattle.root_runs.specs.Stays.{Stays};
 
 use crate::Done;
 use crate::deed::{Deed, deed_of};
@@ -73,8 +74,7 @@ fn put_docs<T: Turns>(
     requires size { 0 < batch_size }
     ensures course { Carried (T.writer site.old) (T.writer site.new)
         (put_course (T.layout site.old) dest.now batch_size docs) result }
-    ensures layout { T.layout site.new ≡ T.layout site.old }
-    ensures home { T.home site.new ≡ T.home site.old }
+    ensures stays { Stays T.layout T.home T.free site.old site.new }
 {
     let tuples = docs.count() as u64;
     let ran = run_update(alloc, site, dest, batch_size, docs)?;
@@ -96,8 +96,7 @@ fn put_plain<T: Turns, R: Threads + Sync, G: Gate>(
     ensures course { Carried (T.writer site.old) (T.writer site.new)
         (reads_then (T.layout site.old) (tree_of input.now)
         (put_course (T.layout site.old) dest.now batch_size)) result }
-    ensures layout { T.layout site.new ≡ T.layout site.old }
-    ensures home { T.home site.new ≡ T.home site.old }
+    ensures stays { Stays T.layout T.home T.free site.old site.new }
 {
     let expr = input.expr();
     if !is_plain(expr) {
@@ -125,8 +124,7 @@ fn update_input<T: Turns, R: Threads + Sync, G: Gate>(
     ensures course { Carried (T.writer site.old) (T.writer site.new)
         (update_by (T.layout site.old) (tree_of checked.now) dest.now batch_size
         (tree_of input.now) (deed_of (operator_in (tree_of input.now)))) result }
-    ensures layout { T.layout site.new ≡ T.layout site.old }
-    ensures home { T.home site.new ≡ T.home site.old }
+    ensures stays { Stays T.layout T.home T.free site.old site.new }
 {
     let expr = input.expr();
     match deed_of(expr) {
@@ -166,8 +164,7 @@ pub(crate) fn run_update_of<T: Turns, R: Threads + Sync, G: Gate>(
     requires deed { deed_of (operator_in (tree_of checked.now)) ≡ writes dest.now batch_size }
     ensures course { Carried (T.writer site.old) (T.writer site.new)
         (update_over (T.layout site.old) (tree_of checked.now) dest.now batch_size) result }
-    ensures layout { T.layout site.new ≡ T.layout site.old }
-    ensures home { T.home site.new ≡ T.home site.old }
+    ensures stays { Stays T.layout T.home T.free site.old site.new }
 {
     if !is_there(site, dest) {
         return Done::unknown(alloc, dest);

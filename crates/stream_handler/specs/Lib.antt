@@ -1,3 +1,4 @@
+pub use Rattle.root_runs.specs.Stays
 pub mod Responses
 pub mod Outcomes
 pub mod Refusals

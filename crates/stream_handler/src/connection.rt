@@ -4,11 +4,13 @@ ghost use Rattle.form_request.specs.Streams.{begun};
 ghost use Rattle.stream_handler.specs.Boards.{board_state};
 ghost use Rattle.stream_handler.specs.Sessions.{IsBounded, IsConnection, RecordsSteps, nothing, record_of, wire};
 ghost use Rattle.stream_handler.specs.Serving.{end_of, exchanges_in};
+ghost use Rattle.root_runs.specs.Stays.{Stays};
 
 use crate::{End, Exchange, Exchanges, OneEnd, SessionEnd, serve_one};
 use daemon_board::Daemons;
 use form_request::Requests;
 use io_edge::{Gate, Sink, Source};
+use root_runs::take_record_over;
 use std::alloc::Global;
 use std::thread::Threads;
 use stream_site::Turns;
@@ -59,7 +61,7 @@ fn serve_all<T: Turns, D: Daemons, R: Threads + Sync, S: Source, K: Sink, G: Gat
         (K.faults sink.new) (board_state (D.shown board.new) (D.answers board.new)))
         (T.writer site.old) (T.writer site.new) result.0.items
         (record_of (T.writer site.new)) result.1 }
-    ensures layout { T.layout site.new ≡ T.layout site.old }
+    ensures stays { Stays T.layout T.home T.free site.old site.new }
 {
     let mut exchanges = Vec::new(alloc);
     for _ in 0..MOST {
@@ -91,14 +93,15 @@ pub fn serve_connection<T: Turns, D: Daemons, R: Threads + Sync, S: Source, K: S
         (board_state (D.shown board.new) (D.answers board.new))
         (T.writer site.old) (T.writer site.new) result }
     ensures recorded { RecordsSteps (T.writer site.old) (T.writer site.new) result }
-    ensures layout { T.layout site.new ≡ T.layout site.old }
+    ensures stays { Stays T.layout T.home T.free site.old site.new }
+    ensures free { T.free site.new }
 {
-    let _ = site.take_record();
+    let _ = take_record_over(site);
     let mut requests = Requests::begin(alloc);
     let (exchanges, end) = serve_all(alloc, rt, site, board, &mut requests, source, sink, gate);
     SessionEnd {
         exchanges: Exchanges::from_vec(exchanges),
         end,
-        rest: site.take_record(),
+        rest: take_record_over(site),
     }
 }

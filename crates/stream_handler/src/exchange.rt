@@ -2,11 +2,13 @@
 ghost use Rattle.std.specs.Prelude.{◌≡◌, IfOk, IfErr};
 ghost use Rattle.stream_handler.specs.Boards.{board_state};
 ghost use Rattle.stream_handler.specs.Exchanges.{IsAnswered, IsBroken};
+ghost use Rattle.root_runs.specs.Stays.{Stays};
 
 use crate::run_request;
 use daemon_board::Daemons;
 use form_request::Request;
 use io_edge::Gate;
+use root_runs::take_record_over;
 use shard_versions::{CutMarks, OwnMarks};
 use std::alloc::Global;
 use std::thread::Threads;
@@ -48,12 +50,13 @@ pub fn answer<T: Turns, D: Daemons, R: Threads + Sync, G: Gate>(
     ensures err { IfErr result (λ _. IsBroken (T.layout site.old) (T.writer site.old)
         (T.writer site.new) (board_state (D.shown board.old) (D.answers board.old))
         (board_state (D.shown board.new) (D.answers board.new)) request) }
-    ensures layout { T.layout site.new ≡ T.layout site.old }
+    ensures stays { Stays T.layout T.home T.free site.old site.new }
+    ensures free { T.free site.new }
 {
-    let _ = site.take_record();
+    let _ = take_record_over(site);
     let outcome = run_request(alloc, rt, site, board, &request, gate)?;
     let reply = outcome.reply(alloc, request.closes, 0)?;
-    let record = site.take_record();
+    let record = take_record_over(site);
     let exchange = Exchange {
         marks: record.marks,
         own: record.own,

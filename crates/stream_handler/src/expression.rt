@@ -9,6 +9,7 @@ ghost use Rattle.expr_types.specs.ExprTree.{operator_in};
 ghost use Rattle.stream_handler.specs.Asks.{daemon_of, expression_ask, root_ask, stream_ask};
 ghost use Rattle.stream_handler.specs.Boards.{IsAsked, board_state};
 ghost use Rattle.stream_handler.specs.Requests.{CarriedWith, deed_course, expression_course, plain_course, root_or_told, stream_course};
+ghost use Rattle.root_runs.specs.Stays.{Stays};
 
 use crate::Outcome;
 use crate::starting::{daemon_of, start};
@@ -33,7 +34,7 @@ fn give<T: Turns, R: Threads + Sync, G: Gate>(
     requires plain { IsPlain (tree_of checked.now) }
     ensures course { Carried (T.writer site.old) (T.writer site.new)
         (plain_course (T.layout site.old) (Ok (tree_of checked.now))) result }
-    ensures layout { T.layout site.new ≡ T.layout site.old }
+    ensures stays { Stays T.layout T.home T.free site.old site.new }
 {
     let docs = run_plain(alloc, rt, site, checked, gate)?;
     Ok(Outcome::ResultSet {
@@ -54,7 +55,7 @@ pub fn run_plain_expression<T: Turns, R: Threads + Sync, G: Gate>(
     ensures course { Carried (T.writer site.old) (T.writer site.new)
         (plain_course (T.layout site.old) (expression_of Plain (T.layout site.old).names bytes.now))
         result }
-    ensures layout { T.layout site.new ≡ T.layout site.old }
+    ensures stays { Stays T.layout T.home T.free site.old site.new }
 {
     match read_checked(alloc, site.names(), bytes, Roots::Plain) {
         Ok(checked) => give(alloc, rt, site, &checked, gate),
@@ -73,7 +74,7 @@ fn carry_out<T: Turns, R: Threads + Sync, G: Gate>(
 ) -> Result<Outcome, Memory>
     ensures course { Carried (T.writer site.old) (T.writer site.new)
         (deed_course (T.layout site.old) (tree_of checked.now)) result }
-    ensures layout { T.layout site.new ≡ T.layout site.old }
+    ensures stays { Stays T.layout T.home T.free site.old site.new }
 {
     let done = run_deed(alloc, rt, site, checked, gate)?;
     Ok(Outcome::ResultSet {
@@ -97,7 +98,7 @@ fn run_checked<T: Turns, D: Daemons, R: Threads + Sync, G: Gate>(
     ensures asked { IsAsked (root_ask (tree_of checked) (daemon_of (operator_in (tree_of checked))))
         (board_state (D.shown board.old) (D.answers board.old))
         (board_state (D.shown board.new) (D.answers board.new)) result }
-    ensures layout { T.layout site.new ≡ T.layout site.old }
+    ensures stays { Stays T.layout T.home T.free site.old site.new }
 {
     let found = daemon_of(alloc, checked.expr())?;
     match found {
@@ -122,7 +123,7 @@ pub fn run_expression<T: Turns, D: Daemons, R: Threads + Sync, G: Gate>(
     ensures asked { IsAsked (expression_ask (expression_of All (T.layout site.old).names bytes.now))
         (board_state (D.shown board.old) (D.answers board.old))
         (board_state (D.shown board.new) (D.answers board.new)) result }
-    ensures layout { T.layout site.new ≡ T.layout site.old }
+    ensures stays { Stays T.layout T.home T.free site.old site.new }
 {
     match read_checked(alloc, site.names(), bytes, Roots::All) {
         Ok(checked) => run_checked(alloc, rt, site, board, checked, gate),
@@ -145,7 +146,7 @@ pub(crate) fn run_stream<T: Turns, D: Daemons, R: Threads + Sync, G: Gate>(
         (stream_ask (T.layout site.old).names (option_map (λ s. s.now) expr.entry))
         (board_state (D.shown board.old) (D.answers board.old))
         (board_state (D.shown board.new) (D.answers board.new)) result }
-    ensures layout { T.layout site.new ≡ T.layout site.old }
+    ensures stays { Stays T.layout T.home T.free site.old site.new }
 {
     match expr {
         Some(text) => run_expression(alloc, rt, site, board, text.as_bytes(), gate),

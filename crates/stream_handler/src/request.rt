@@ -8,6 +8,7 @@ ghost use Rattle.stream_handler.specs.Asks.{acted_ask, ask_of, handled_ask};
 ghost use Rattle.stream_handler.specs.Boards.{IsAsked, board_state};
 ghost use Rattle.stream_handler.specs.Refusals.{refusal};
 ghost use Rattle.stream_handler.specs.Requests.{CarriedWith, acted_course, handled, is_true, request_course, update_course};
+ghost use Rattle.root_runs.specs.Stays.{Stays};
 
 use crate::Outcome;
 use crate::action::act;
@@ -48,7 +49,7 @@ fn run_acted<T: Turns, D: Daemons, R: Threads + Sync, G: Gate>(
         (first_value (codes "action") request.now.params))
         (board_state (D.shown board.old) (D.answers board.old))
         (board_state (D.shown board.new) (D.answers board.new)) result }
-    ensures layout { T.layout site.new ≡ T.layout site.old }
+    ensures stays { Stays T.layout T.home T.free site.old site.new }
 {
     match request.param("action") {
         Some(action) => act(alloc, board, action, request.param("id")),
@@ -63,7 +64,7 @@ fn run_updated<T: Turns>(alloc: Global, site: &mut T, request: &Request) -> Resu
         (update_course (T.layout site.old) request.now.collection
         (is_true (first_value (codes "commit") request.now.params)) (update_in request.now.body))
         result }
-    ensures layout { T.layout site.new ≡ T.layout site.old }
+    ensures stays { Stays T.layout T.home T.free site.old site.new }
 {
     let commit = is_true(request.param("commit"));
     run_update(
@@ -90,7 +91,7 @@ fn handle<T: Turns, D: Daemons, R: Threads + Sync, G: Gate>(
     ensures asked { IsAsked (handled_ask (T.layout site.old).names request.now request.now.handler)
         (board_state (D.shown board.old) (D.answers board.old))
         (board_state (D.shown board.new) (D.answers board.new)) result }
-    ensures layout { T.layout site.new ≡ T.layout site.old }
+    ensures stays { Stays T.layout T.home T.free site.old site.new }
 {
     match request.handler {
         Handler::Stream => run_acted(alloc, rt, site, board, request, gate),
@@ -122,7 +123,7 @@ pub fn run_request<T: Turns, D: Daemons, R: Threads + Sync, G: Gate>(
     ensures asked { IsAsked (ask_of (T.layout site.old).names request.now)
         (board_state (D.shown board.old) (D.answers board.old))
         (board_state (D.shown board.new) (D.answers board.new)) result }
-    ensures layout { T.layout site.new ≡ T.layout site.old }
+    ensures stays { Stays T.layout T.home T.free site.old site.new }
 {
     if shards_of(site.names(), request.collection.as_str()) == 0 {
         return unknown(alloc);

@@ -3,12 +3,14 @@ ghost use Rattle.std.specs.Prelude.{◌≡◌};
 ghost use Rattle.stream_handler.specs.Boards.{board_state};
 ghost use Rattle.stream_handler.specs.Sessions.{IsOneEnd, wire};
 ghost use Rattle.stream_handler.specs.Serving.{IsReplied, sunk};
+ghost use Rattle.root_runs.specs.Stays.{Stays};
 
 use crate::waiting::next_request;
 use crate::{Answered, End, OneEnd, answer};
 use daemon_board::Daemons;
 use form_request::{Request, Requests};
 use io_edge::{Gate, Put, Sink, Source};
+use root_runs::take_record_over;
 use std::alloc::Global;
 use std::thread::Threads;
 use stream_site::Turns;
@@ -28,7 +30,8 @@ fn reply_to<T: Turns, D: Daemons, R: Threads + Sync, K: Sink, G: Gate>(
         (board_state (D.shown board.new) (D.answers board.new)) request
         (sunk (K.written sink.old) (K.written sink.new) (K.faults sink.old) (K.faults sink.new))
         result }
-    ensures layout { T.layout site.new ≡ T.layout site.old }
+    ensures stays { Stays T.layout T.home T.free site.old site.new }
+    ensures free { T.free site.new }
 {
     let closes = request.closes;
     let Ok(answered) = answer(alloc, rt, site, board, request, gate) else {
@@ -66,9 +69,10 @@ pub fn serve_one<T: Turns, D: Daemons, R: Threads + Sync, S: Source, K: Sink, G:
         (wire requests.new (S.left source.new) (S.faults source.new) (K.written sink.new)
         (K.faults sink.new) (board_state (D.shown board.new) (D.answers board.new)))
         (T.writer site.old) (T.writer site.new) result }
-    ensures layout { T.layout site.new ≡ T.layout site.old }
+    ensures stays { Stays T.layout T.home T.free site.old site.new }
+    ensures free { T.free site.new }
 {
-    let _ = site.take_record();
+    let _ = take_record_over(site);
     match next_request(alloc, site.names(), requests, source, sink) {
         Ok(request) => reply_to(alloc, rt, site, board, request, sink, gate),
         Err(end) => OneEnd::Over {

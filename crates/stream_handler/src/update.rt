@@ -5,6 +5,7 @@ ghost use Rattle.exchange_rules.specs.Steps.{AreStorableWrites};
 ghost use Rattle.json_text.specs.Updates.{update_in};
 ghost use Rattle.exchange_rules.specs.Calls.{Carried};
 ghost use Rattle.stream_handler.specs.Requests.{IsBadBody, IsRefusal, full_shard, update_course};
+ghost use Rattle.root_runs.specs.Stays.{Stays};
 
 use crate::Outcome;
 use exchange_rules::SiteFault;
@@ -74,7 +75,7 @@ fn index<T: Turns>(
     requires storable { AreStorableWrites update.writes }
     ensures course { Carried (T.writer site.old) (T.writer site.new)
         (update_course (T.layout site.old) collection.now commit (Ok update)) result }
-    ensures layout { T.layout site.new ≡ T.layout site.old }
+    ensures stays { Stays T.layout T.home T.free site.old site.new }
 {
     let commit = is_asked(update.commit, commit);
     match index_over(alloc, site, collection, update.writes, commit) {
@@ -105,7 +106,7 @@ pub(crate) fn run_update<T: Turns>(
     requires known { 0 < shards_of (T.layout site.old).names collection.now }
     ensures course { Carried (T.writer site.old) (T.writer site.new)
         (update_course (T.layout site.old) collection.now commit (update_in body.now)) result }
-    ensures layout { T.layout site.new ≡ T.layout site.old }
+    ensures stays { Stays T.layout T.home T.free site.old site.new }
 {
     match read_update(alloc, body) {
         Ok(update) => index(alloc, site, collection, update, commit),

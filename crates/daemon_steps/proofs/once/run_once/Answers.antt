@@ -9,8 +9,8 @@ use Rattle.daemon_steps.proofs.once.run_once.Goals as goal
 pub returns-in_default-clause-ok : goal.returns-in_default-clause-ok
 returns-in_default-clause-ok g c =
     once_nothing (g.T.Turns.layout c.args.site.now) (g.T.Turns.writer c.args.site.now)
-    (g.T.Turns.writer c.take_record.new.self) (input_of (tree_of c.args.checked.now))
-    c.in_default.ensures c.take_record.ensures.rest
+    (g.T.Turns.writer c.take_record_over.new.site) (input_of (tree_of c.args.checked.now))
+    c.in_default.ensures c.take_record_over.ensures.rest
 
 pub returns-in_err-run-clause-err : goal.returns-in_err-run-clause-err
 returns-in_err-run-clause-err g c =

@@ -1,6 +1,7 @@
 use Rattle.std.proofs.Common.{◌∙◌, refl, subst}
 use Rattle.std.proofs.lemmas.Result.{err_from_is_err_and}
 use Rattle.daemon_board.specs.Tickets.{tickets_of}
+use Rattle.root_runs.proofs.StaysLemmas.{stays_then}
 use Rattle.daemon_steps.specs.Runs.{HasTurn}
 use Rattle.daemon_steps.specs.Stepped.{IsCutShort}
 use Rattle.daemon_steps.proofs.StepLemmas.{HasCome, come_all, come_cut, come_cut_kept, come_kept, come_nearer, come_none, come_on, none_kept}
@@ -11,11 +12,11 @@ use Rattle.daemon_steps.proofs.running.run_daemons.Goals as goal
 pub loop-number-init : goal.loop-number-init
 loop-number-init g c = record {
   come = come_none (g.T.Turns.layout c.args.site.now) (g.T.Turns.writer c.args.site.now)
-      (g.T.Turns.writer c.take_record.new.self) c.args.board.now.shown c.requires
-      c.take_record.ensures.rest;
+      (g.T.Turns.writer c.take_record_over.new.site) c.args.board.now.shown c.requires
+      c.take_record_over.ensures.rest;
   answers = refl;
-  layout = c.take_record.ensures.layout;
-  home = c.take_record.ensures.home;
+  stays = c.take_record_over.ensures.stays;
+  free = c.take_record_over.ensures.free;
 }
 
 pub returns-in_err-number-clause-err : goal.returns-in_err-number-clause-err
@@ -30,7 +31,7 @@ returns-in_err-number-clause-err g c =
     at_err c.from_residual.result r.0 (IsCutShort l old next (tickets_of from) (tickets_of new)) r.1
     (come_cut l old now from c.loop-number.board.shown c.loop-number.after
     c.loop-number.invariant.come (g.T.Turns.layout c.loop-number.site) next new
-    c.loop-number.invariant.layout c.in_err-number.ensures.err)
+    c.loop-number.invariant.stays.layout c.in_err-number.ensures.err)
 
 pub returns-in_err-number-clause-kept : goal.returns-in_err-number-clause-kept
 returns-in_err-number-clause-kept g c =
@@ -75,7 +76,7 @@ come_next g c =
     let l = g.T.Turns.layout c.loop-number.site in
     come_on (g.T.Turns.layout c.args.site.now) (g.T.Turns.writer c.args.site.now) now
     c.args.board.now.shown b c.loop-number.after c.loop-number.invariant.come l next new
-    c.in-Some.number c.loop-number.invariant.layout
+    c.in-Some.number c.loop-number.invariant.stays.layout
     (subst (HasTurn l now next b new c.loop-number.after) c.in-Some.is c.in_ok-number.ensures.ok)
 
 pub loop-number-smaller : goal.loop-number-smaller
@@ -95,6 +96,6 @@ pub loop-number-preserved : goal.loop-number-preserved
 loop-number-preserved g c = record {
   come = come_next g c;
   answers = c.run_next.ensures.answers ∙ c.loop-number.invariant.answers;
-  layout = c.run_next.ensures.layout ∙ c.loop-number.invariant.layout;
-  home = c.run_next.ensures.home ∙ c.loop-number.invariant.home;
+  stays = stays_then c.loop-number.invariant.stays c.run_next.ensures.stays;
+  free = c.run_next.ensures.stays.free c.loop-number.invariant.free;
 }

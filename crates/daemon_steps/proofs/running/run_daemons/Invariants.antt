@@ -1,4 +1,5 @@
 use Rattle.std.proofs.Common.{◌≡◌, ◌-◌}
+use Rattle.root_runs.specs.Stays.{Stays}
 use Rattle.daemon_steps.proofs.StepLemmas.{HasCome}
 use Rattle.daemon_steps.proofs.running.run_daemons.Given as goal
 
@@ -8,8 +9,8 @@ invariant-loop-number g l = record {
   come : HasCome (g.T.Turns.layout l.fn.site) (g.T.Turns.writer l.fn.site)
       (g.T.Turns.writer l.site) l.fn.board.shown l.board.shown l.after;
   answers : l.board.answers ≡ l.fn.board.answers;
-  layout : g.T.Turns.layout l.site ≡ g.T.Turns.layout l.fn.site;
-  home : g.T.Turns.home l.site ≡ g.T.Turns.home l.fn.site;
+  stays : Stays g.T.Turns.layout g.T.Turns.home g.T.Turns.free l.fn.site l.site;
+  free : g.T.Turns.free l.site;
 }
 
 -- how many numbers there are above it

@@ -41,4 +41,4 @@ returns-clause-course g c =
     c.commit_round.result c.in_ok-done.ensures.course
     (subst (λ s. Carried mid new (then_commits l dest size s done) c.commit_round.result) summed
     (subst (λ m. Carried mid new (then_commits m dest size c.gives_summaries-summaries.result done)
-    c.commit_round.result) c.in_ok-done.ensures.layout c.commit_round.ensures.course))
+    c.commit_round.result) c.in_ok-done.ensures.stays.layout c.commit_round.ensures.course))

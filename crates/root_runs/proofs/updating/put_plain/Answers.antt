@@ -55,4 +55,4 @@ returns-clause-course g c =
     reads_on w mid new l e (put_course l dest size) docs c.put_docs.result plain
     c.in_ok-docs.ensures.course
     (subst (λ m. Carried mid new (put_course m dest size docs) c.put_docs.result)
-    c.in_ok-docs.ensures.layout c.put_docs.ensures.course)
+    c.in_ok-docs.ensures.stays.layout c.put_docs.ensures.course)

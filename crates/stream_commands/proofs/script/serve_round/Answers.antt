@@ -24,7 +24,8 @@ returns-in-Served-clause-round g c =
     round_on (layout_of c.args.site.now) old new (writer_of c.args.site.now)
     (writer_of c.serve_one.new.site) (writer_of c.run_board.new.site) c.args.board.now
     c.serve_one.new.board c.run_board.new.board _ refl refl (layout_of c.serve_one.new.site)
-    c.run_board.result c.in-Served.ensures.layout c.in-Served.ensures.served c.run_board.ensures.ran
+    c.run_board.result c.in-Served.ensures.stays.layout c.in-Served.ensures.served
+    c.run_board.ensures.ran
 
 pub returns-in-Last-clause-round : goal.returns-in-Last-clause-round
 returns-in-Last-clause-round g c =
@@ -37,7 +38,7 @@ returns-in-Last-clause-round g c =
     round_last (layout_of c.args.site.now) old new (writer_of c.args.site.now)
     (writer_of c.serve_one.new.site) (writer_of c.run_board-in-Last.new.site) c.args.board.now
     c.serve_one.new.board c.run_board-in-Last.new.board _ refl refl
-    (layout_of c.serve_one.new.site) c.run_board-in-Last.result c.in-Last.ensures.layout
+    (layout_of c.serve_one.new.site) c.run_board-in-Last.result c.in-Last.ensures.stays.layout
     c.in-Last.ensures.served c.run_board-in-Last.ensures.ran
 
 pub returns-clause-round : goal.returns-clause-round

@@ -1,5 +1,5 @@
 use Rattle.std.proofs.Common.{◌≡◌, sym, subst}
-use Rattle.std.specs.Prelude.{Ok, Err}
+use Rattle.std.specs.Prelude.{Err}
 use Rattle.exchange_rules.specs.Following.{Answers}
 use Rattle.expr_check.specs.Views.{tree_of}
 use Rattle.expr_check.specs.declared.roots.Roots.TheVariants.{Plain}
