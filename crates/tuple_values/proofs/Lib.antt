@@ -7,4 +7,5 @@ pub mod OrderLemmas
 pub mod SizeLemmas
 mod ComparisonLemmas
 mod SearchLemmas
+mod ShapeLemmas
 mod WholeLemmas

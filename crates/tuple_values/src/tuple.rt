@@ -11,6 +11,9 @@ use crate::value::Field;
 use crate::{FieldList, Memory, Text, TryCopy, Tuple, Value};
 use std::alloc::Global;
 
+// Up to so many fields are compared one by one, which is faster than a binary search among them.
+const FEW: usize = 12;
+
 impl Tuple {
     /// The tuple without fields.
     pub fn empty(alloc: Global) -> Tuple
@@ -33,9 +36,10 @@ impl Tuple {
     pub fn get(&self, name: &str) -> Option<&Value>
         ensures { option_map (λ v. datum_of v.now) result ≡ value_at name.now self.now }
     {
-        match place_of(&self.fields, name) {
-            Ok(at) => Some(&self.fields[at].value),
-            Err(_) => None,
+        if self.fields.len() > FEW {
+            searched(&self.fields, name)
+        } else {
+            scanned(&self.fields, name)
         }
     }
 
@@ -118,7 +122,7 @@ impl Tuple {
     }
 
     // The name, shared with the field that has it.
-    fn name_like(&self, alloc: Global, name: &str) -> Result<FieldName, Memory>
+    pub(crate) fn name_like(&self, alloc: Global, name: &str) -> Result<FieldName, Memory>
         ensures { IfOk result (λ made. made ≡ name.now) }
     {
         match place_of(&self.fields, name) {
@@ -130,7 +134,7 @@ impl Tuple {
         }
     }
 
-    fn put_field(&mut self, name: FieldName, value: Value) -> Result<(), Memory>
+    pub(crate) fn put_field(&mut self, name: FieldName, value: Value) -> Result<(), Memory>
         ensures ok { OnOk result (self.new ≡ put name (datum_of value) self.old) }
         ensures err { OnErr result (self.new ≡ self.old) }
     {
@@ -189,15 +193,39 @@ impl Tuple {
     }
 }
 
-fn new_name(alloc: Global, name: &str) -> Result<FieldName, Memory>
+pub(crate) fn new_name(alloc: Global, name: &str) -> Result<FieldName, Memory>
     ensures { IfOk result (λ made. made ≡ name.now) }
 {
     let text = Text::of(alloc, name)?;
     FieldName::of(alloc, text)
 }
 
+// The named field's value, by a look at each name. Names are the same only where their lengths are,
+// which are compared first.
+fn scanned<'a>(fields: &'a [Field], name: &str) -> Option<&'a Value>
+    ensures { option_map (λ v. datum_of v.now) result ≡ value_at name.now (doc_of fields.now) }
+{
+    for field in fields {
+        if field.name.as_str() == name {
+            return Some(&field.value);
+        }
+    }
+    None
+}
+
+// The named field's value, by a binary search.
+fn searched<'a>(fields: &'a [Field], name: &str) -> Option<&'a Value>
+    requires { Rises (doc_of fields.now) }
+    ensures { option_map (λ v. datum_of v.now) result ≡ value_at name.now (doc_of fields.now) }
+{
+    match place_of(fields, name) {
+        Ok(at) => Some(&fields[at].value),
+        Err(_) => None,
+    }
+}
+
 // Where the name is among fields in order, or where it would go.
-fn place_of(fields: &[Field], name: &str) -> Result<usize, usize>
+pub(crate) fn place_of(fields: &[Field], name: &str) -> Result<usize, usize>
     requires { Rises (doc_of fields.now) }
     ensures bound { IsSearchInRange result (length fields.now) }
     ensures found { IfOk result (λ at. IsAt name.now at (doc_of fields.now)) }

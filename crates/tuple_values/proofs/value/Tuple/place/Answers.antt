@@ -1,6 +1,5 @@
-use Rattle.std.proofs.Common.{sym, ◌∙◌, ap, arith, length, get_or, refl, ℕ, ◌<◌, ◌≤◌, ◌≡◌}
+use Rattle.std.proofs.Common.{sym, ◌∙◌, ap, arith, ℕ, ◌<◌, ◌≤◌, ◌≡◌}
 use Rattle.std.specs.Prelude.{slice_get, option_map}
-use Rattle.tuple_values.specs.Document.{Doc}
 use Rattle.tuple_values.proofs.DocumentLemmas.{at_within, placed, placed_past, value_absent}
 use Rattle.tuple_values.proofs.value.Tuple.place.Goals as goal
 
