@@ -136,7 +136,7 @@ field_is name (m ∷ members) ascend =
     field_found name m members _ refl ascend (field_is name members ascend.1)
 
 -- no value beside a value changes nothing
-or_none : (o : Option Datum) → option_or o None ≡ o
+pub or_none : (o : Option Datum) → option_or o None ≡ o
 or_none None = refl
 or_none (Some value) = refl
 

@@ -3,5 +3,6 @@ pub mod Replies
 pub mod Documents
 pub mod Writes
 pub mod Updates
+pub mod Flat
 pub mod Faults
 pub mod Laws

@@ -92,7 +92,7 @@ fn put_member(
     }
 }
 
-fn is_reserved(name: &str) -> bool
+pub(crate) fn is_reserved(name: &str) -> bool
     ensures { result ≡ is_reserved name.now }
 {
     name == "_version_" || name == "_src_s" || name == "_src_version_l"
@@ -121,7 +121,7 @@ fn plain(alloc: Global, json: Json) -> Result<Option<Value>, Memory>
 }
 
 // The document, if it has an id and isn't too large.
-fn allow(at: u64, doc: Tuple) -> Result<Tuple, JsonFault>
+pub(crate) fn allow(at: u64, doc: Tuple) -> Result<Tuple, JsonFault>
     ensures { result ≡ allowed at doc }
 {
     if !has_id(&doc) {

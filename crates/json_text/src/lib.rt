@@ -4,6 +4,7 @@
 
 mod document;
 mod fault;
+mod flat;
 mod laws;
 mod members;
 mod pieces;

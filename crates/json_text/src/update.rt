@@ -1,9 +1,10 @@
 // Bodies of updates.
-ghost use Rattle.std.specs.Prelude.{◌≡◌, ◌≢◌, IfOk, IfErr, Ok, Err, Some, None};
+ghost use Rattle.std.specs.Prelude.{◌≡◌, ◌≢◌, ◌<◌, length, IfOk, IfErr, Ok, Err, Some, None};
 ghost use Rattle.serde_json.specs.View.{view, members_view};
 ghost use Rattle.json_text.specs.Updates.{json_in, update_of, update_in, commands_of};
 
 use crate::JsonFault;
+use crate::flat::read_flat;
 use crate::members::{are_commands, has, has_command, take};
 use crate::writes::{push_added, push_deleted, push_put, push_puts};
 use serde_json::{Map, Value as Json};
@@ -31,6 +32,22 @@ pub fn read_update(alloc: Global, bytes: &[u8]) -> Result<Update, JsonFault>
             commit: false,
         });
     }
+    match read_flat(alloc, bytes)? {
+        Some(writes) => Ok(Update {
+            writes,
+            commit: false,
+        }),
+        None => read_value(alloc, bytes),
+    }
+}
+
+// The same by way of the body's value.
+fn read_value(alloc: Global, bytes: &[u8]) -> Result<Update, JsonFault>
+    requires { 0 < length bytes.now }
+    ensures ok { IfOk result (λ update. update_in bytes.now ≡ Ok update) }
+    ensures err { IfErr result (λ fault. fault ≢ JsonFault.OutOfMemory
+        → update_in bytes.now ≡ Err fault) }
+{
     let json = parse(alloc, bytes)?;
     make_update(alloc, json)
 }

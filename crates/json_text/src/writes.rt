@@ -50,7 +50,7 @@ pub(crate) fn push_put(
 }
 
 // The document that is put last, where it stands last.
-fn last_document(writes: &[Write]) -> Option<&Tuple> {
+pub(crate) fn last_document(writes: &[Write]) -> Option<&Tuple> {
     match writes {
         [.., Write::Put(document)] => Some(document),
         _ => None,
