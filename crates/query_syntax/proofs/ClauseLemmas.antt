@@ -9,7 +9,7 @@ use Rattle.tuple_values.specs.Document.{Doc}
 use Rattle.query_syntax.specs.Tree.{what_depth, clauses_depth, ClauseTree, trees_of}
 use Rattle.query_syntax.specs.Items.{role_beside, require_last}
 use Rattle.query_syntax.specs.Views.{what_tree, clause_tree, clause_trees}
-use Rattle.query_syntax.specs.Matching.{has_role, some_clause, same_role, agrees, what_matches}
+use Rattle.query_syntax.specs.Matching.{some_clause, same_role, agrees, what_matches}
 use Rattle.query_syntax.specs.declared.query.Role.{Role}
 use Rattle.query_syntax.specs.declared.query.Clause.{Clause}
 
@@ -22,16 +22,7 @@ clause_smaller (b ∷ clauses) zero c lt is = rw is (omega arith)
 clause_smaller (b ∷ clauses) (suc k) c lt is =
     omega (arith, clause_smaller clauses k c (omega arith) is)
 
--- some clause from a place on has the role: the one there has, or some later one
-pub has_role-step : (clauses : List ClauseTree) (k : ℕ) (c : ClauseTree) (role : Role)
-    → k < length clauses → c ≡ slice_index_or clauses k c
-    → has_role (trees_of (drop k clauses)) role
-    ≡ (same_role c.role role || has_role (trees_of (drop (suc k) clauses)) role)
-has_role-step [] k c role lt is = absurd (omega arith)
-has_role-step (b ∷ clauses) zero c role lt is = rw is refl
-has_role-step (b ∷ clauses) (suc k) c role lt is = has_role-step clauses k c role (omega arith) is
-
--- the same of some clause that matches or fails
+-- some clause from a place on matches or fails: the one there, or some later one
 pub some_clause-step : (clauses : List ClauseTree) (k : ℕ) (c : ClauseTree) (role : Role)
     (hit : Bool) (doc : Doc) → k < length clauses → c ≡ slice_index_or clauses k c
     → some_clause (trees_of (drop k clauses)) role hit doc
@@ -41,19 +32,6 @@ some_clause-step [] k c role hit doc lt is = absurd (omega arith)
 some_clause-step (b ∷ clauses) zero c role hit doc lt is = rw is refl
 some_clause-step (b ∷ clauses) (suc k) c role hit doc lt is =
     some_clause-step clauses k c role hit doc (omega arith) is
-
--- the one at this place has the role, so some one from here on does
-pub has_role-here : (clauses : List ClauseTree) (k : ℕ) (c : ClauseTree) (role : Role)
-    → k < length clauses → c ≡ slice_index_or clauses k c → same_role c.role role ≡ true
-    → has_role (trees_of (drop k clauses)) role ≡ true
-has_role-here clauses k c role lt is same = has_role-step clauses k c role lt is ∙ rw same refl
-
--- it hasn't, so it's for those behind it
-pub has_role-behind : (clauses : List ClauseTree) (k : ℕ) (c : ClauseTree) (role : Role)
-    → k < length clauses → c ≡ slice_index_or clauses k c → same_role c.role role ≡ false
-    → has_role (trees_of (drop k clauses)) role ≡ has_role (trees_of (drop (k + 1) clauses)) role
-has_role-behind clauses k c role lt is other =
-    has_role-step clauses k c role lt is ∙ rw (other, add-one) refl
 
 -- the one at this place is such a clause, so some one from here on is
 pub some_clause-here : (clauses : List ClauseTree) (k : ℕ) (c : ClauseTree) (role : Role)
@@ -101,14 +79,14 @@ require_last-append (d ∷ e ∷ cs) c =
     ap (λ (x : List ClauseTree). d ∷ x) (require_last-append (e ∷ cs) c)
 
 -- the clauses with the last one anew
-pub require_last-new : (old rest new : List Clause) (c : Clause) (role : Role)
-    → old ≡ rest ++ c ∷ [] → new ≡ rest ++ record { role = role; what = c.what } ∷ []
-    → role ≡ role_beside c.role → clause_trees new ≡ require_last (clause_trees old)
+pub require_last-new : (old rest : List Clause) (new : List ClauseTree) (c : Clause) (role : Role)
+    → old ≡ rest ++ c ∷ []
+    → new ≡ clause_trees rest ++ clause_tree (record { role = role; what = c.what }) ∷ []
+    → role ≡ role_beside c.role → new ≡ require_last (clause_trees old)
 require_last-new old rest new c role old_is new_is role_is =
-    let last : Clause = record { role = role; what = c.what } in
-    ap clause_trees new_is ∙ map-append clause_tree rest (last ∷ [])
-    ∙ ap (λ (r : Role). map clause_tree rest
-    ++ record { role = r; what = what_tree c.what } ∷ []) role_is
+    new_is
+    ∙ ap (λ (r : Role). clause_trees rest ++ record { role = r; what = what_tree c.what } ∷ [])
+    role_is
     ∙ sym (ap (λ (l : List Clause). require_last (clause_trees l)) old_is
     ∙ ap require_last (map-append clause_tree rest (c ∷ []))
     ∙ require_last-append (map clause_tree rest) (clause_tree c))

@@ -2,6 +2,7 @@ pub mod AgreementLemmas
 pub mod ClassLemmas
 pub mod ClauseLemmas
 pub mod CompleteLemmas
+pub mod CountLemmas
 pub mod EndsLemmas
 pub mod LaidTestLemmas
 pub mod LetterLemmas

@@ -1,5 +1,6 @@
 pub mod Agreement
 pub mod Codes
+pub mod Counts
 pub mod Falls
 pub mod Fault
 pub mod Grammar

@@ -1,6 +1,7 @@
 //! Queries, the documents that they match, and the reader of their texts.
 #![tactic(auto)]
 
+mod counts;
 mod fault;
 mod letters;
 mod lists;

@@ -139,18 +139,6 @@ impl Role {
 }
 
 impl Clauses {
-    // Whether some clause has the role.
-    fn has(&self, role: Role) -> bool
-        ensures { result ≡ has_role (trees_of self.now) role }
-    {
-        for k in 0..self.count() {
-            if self.get(k).role.is(role) {
-                return true;
-            }
-        }
-        false
-    }
-
     // Whether there are clauses, and all of them are prohibited.
     fn is_negative(&self) -> bool
         ensures { result ≡ is_negative (trees_of self.now) }
@@ -163,6 +151,9 @@ impl Clauses {
     fn some(&self, role: Role, hit: bool, t: &Tuple) -> bool
         ensures { result ≡ some_clause (trees_of self.now) role hit t.now }
     {
+        if !self.has(role) {
+            return false;
+        }
         for k in 0..self.count() {
             let clause = self.get(k);
             if clause.role.is(role) && clause.what.matches(t) == hit {

@@ -1,11 +1,13 @@
 // What a query says.
 ghost use Rattle.std.specs.Prelude.{◌≡◌, ◌<◌, ◌++◌, ◌∷◌, [], IfOk, OnErr, OnOk, length};
 ghost use Rattle.std.specs.Prelude.{slice_index_or};
-ghost use Rattle.query_syntax.specs.Tree.{what_depth, clauses_depth};
+ghost use Rattle.query_syntax.specs.Tree.{trees_of, what_depth, clauses_depth};
 ghost use Rattle.query_syntax.specs.Views.{clause_tree};
 ghost use Rattle.query_syntax.specs.Items.{require_last};
+ghost use Rattle.query_syntax.specs.Matching.{has_role};
 
 use crate::Term;
+use crate::counts::Counts;
 use std::alloc::Global;
 use std::marker::Model;
 use tuple_values::{Memory, Text, TryCopy};
@@ -71,11 +73,13 @@ pub struct Clause {
     pub what: What,
 }
 
-/// Clauses in their order. A contract sees the list of their trees.
+/// Clauses in their order, of which those of each role are counted once. A contract sees the list of
+/// their trees.
 #[cycle(clauses)]
 #[derive(Drop)]
 pub struct Clauses {
     items: Vec<Clause>,
+    counts: Counts,
 }
 
 /// A query, by its clauses.
@@ -104,6 +108,10 @@ impl Model for Clauses {
 
     ghost view = { λ c. clause_trees c.items.items };
 
+    ghost use Rattle.query_syntax.specs.Counts.{AreCounted};
+
+    ghost invariant = { λ c. AreCounted c.counts c.items.items };
+
     ghost size = { clauses_depth };
 
     ghost use Rattle.query_syntax.specs.Falls.{clauses_fall};
@@ -118,6 +126,7 @@ impl Clauses {
     {
         Clauses {
             items: Vec::new(alloc),
+            counts: Counts::none(),
         }
     }
 
@@ -126,7 +135,9 @@ impl Clauses {
         ensures ok { OnOk result (self.new ≡ self.old ++ clause_tree clause ∷ []) }
         ensures err { OnErr result (self.new ≡ self.old) }
     {
+        let role = clause.role;
         self.items.push(clause)?;
+        self.counts.add(role);
         Ok(())
     }
 
@@ -145,6 +156,13 @@ impl Clauses {
     {
         &self.items[k as usize]
     }
+
+    // Whether some clause has the role.
+    pub(crate) fn has(&self, role: Role) -> bool
+        ensures { result ≡ has_role (trees_of self.now) role }
+    {
+        self.counts.of(role) > 0
+    }
 }
 
 /// The last clause has an `AND` beside it.
@@ -152,9 +170,10 @@ pub fn require_last(clauses: &mut Clauses) -> Result<(), Memory>
     ensures { OnOk result (clauses.new ≡ require_last clauses.old) }
 {
     if let Some(clause) = clauses.items.pop() {
+        clauses.counts.take(clause.role);
         let role = clause.role.beside();
         let what = clause.what;
-        clauses.items.push(Clause { role, what })?;
+        clauses.push(Clause { role, what })?;
     }
     Ok(())
 }
@@ -246,7 +265,10 @@ impl Clauses {
         for clause in &self.items {
             items.push(clause.copy(alloc)?)?;
         }
-        Ok(Clauses { items })
+        Ok(Clauses {
+            items,
+            counts: self.counts,
+        })
     }
 }
 

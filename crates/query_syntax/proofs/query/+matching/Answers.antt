@@ -1,11 +1,18 @@
 use Rattle.std.proofs.Common.{◌<◌, length, sym, ◌∙◌, arith, refl}
+use Rattle.query_syntax.specs.Tree.{trees_of}
 use Rattle.query_syntax.specs.Views.{clause_tree}
 use Rattle.query_syntax.proofs.ClauseLemmas.{some_clause-here, some_clause-behind, agrees-found}
 use Rattle.query_syntax.proofs.ClauseLemmas.{agrees-missed}
+use Rattle.query_syntax.proofs.CountLemmas.{some_clause-none}
 use Rattle.query_syntax.proofs.query.+matching.Goals as goal
 use Rattle.query_syntax.proofs.query.+matching.Goals.{}
 use Rattle.query_syntax.proofs.query.+matching.Goals.{Clauses::some-else-is-via-then-is+else-matches-hit}
 use Rattle.query_syntax.proofs.query.+matching.Goals.{Clauses::some-else-is-via-else-is}
+
+pub Clauses::some-returns-then-not-has : goal.Clauses::some-returns-then-not-has
+Clauses::some-returns-then-not-has t c =
+    sym (some_clause-none (trees_of c.args.self.now) c.args.role c.args.hit c.args.t.now
+    (sym c.has.ensures ∙ c.if-not-has.true))
 
 pub Clauses::some-returns-then-matches-hit : goal.Clauses::some-returns-then-matches-hit
 Clauses::some-returns-then-matches-hit t c =
