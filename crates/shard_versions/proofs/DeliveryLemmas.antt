@@ -1,17 +1,17 @@
 -- What is delivered to a shard rises in each source and id, and a Mark follows it.
-use Rattle.std.proofs.Common.{◌≡◌, ℕ, ◌+◌, ◌<◌, ◌≤◌, ◌||◌, ◌&&◌, Bool, true, false, cond, List, [], ◌∷◌, ◌++◌, Option, Some, None, refl, sym, ap, subst, ◌∙◌, arith, append_assoc, bytes_eq, inl, inr, ltb}
+use Rattle.std.proofs.Common.{◌≡◌, ℕ, ◌<◌, ◌||◌, ◌&&◌, Bool, true, false, cond, List, [], ◌∷◌, ◌++◌, refl, sym, ap, subst, ◌∙◌, append_assoc, bytes_eq, inl, inr, ltb}
 use Rattle.std.proofs.lemmas.List.{append-nil}
 use Rattle.std.proofs.lemmas.Bool.{ltb-true}
 use Rattle.std.proofs.lemmas.Slice.Eq.{bytes_eq-Decides}
 use Rattle.std.specs.List.{AllByRecursion}
-use Rattle.tuple_values.specs.Document.{ByteList, Doc}
+use Rattle.tuple_values.specs.Document.{ByteList}
 use Rattle.shard_versions.specs.Documents.{id_of}
 use Rattle.shard_versions.specs.declared.entry.Kind.{Kind}
 use Rattle.shard_versions.specs.declared.entry.Kind.TheVariants.{Put, Del, Sent, Mark}
 use Rattle.shard_versions.specs.declared.entry.Entry.{Entry}
 use Rattle.shard_versions.specs.Histories.{History, is_mark, has_mark}
 use Rattle.shard_versions.specs.Deliveries.{sent_version, sents, IsRising, AreRising, Reaches, are_below, admits, admits_kind, admitted, mark_by, marked, IsSettledKind, AreSentsSettled, is_plain, ArePlain}
-use Rattle.shard_versions.proofs.ListLemmas.{each_append, each_left, each_right, each_weaker, each_all}
+use Rattle.shard_versions.proofs.ListLemmas.{each_append}
 use Rattle.shard_versions.proofs.VersionLemmas.{has_mark-grows}
 
 -- the deliveries of two lists of entries are those of the first, and then those of the second

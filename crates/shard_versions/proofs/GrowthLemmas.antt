@@ -1,14 +1,13 @@
 -- A tree as the index of one more entry.
-use Rattle.std.proofs.Common.{◌≡◌, ◌≢◌, ◌⊎◌, ℕ, zero, suc, ◌+◌, ◌-◌, ◌<◌, ◌≤◌, Bool, true, false, cond, eqb, List, [], ◌∷◌, ◌++◌, length, get_or, set, refl, sym, ap, subst, ◌∙◌, arith, inl, inr, length-append}
+use Rattle.std.proofs.Common.{◌≡◌, ◌⊎◌, ℕ, zero, suc, ◌+◌, ◌<◌, ◌≤◌, Bool, true, false, cond, eqb, List, [], ◌∷◌, ◌++◌, length, get_or, refl, sym, ap, subst, ◌∙◌, arith, inl, inr, length-append}
 use Rattle.std.proofs.lemmas.Bool.{cases_lt, eqb-true}
 use Rattle.shard_versions.specs.declared.entry.Kind.{Kind}
 use Rattle.shard_versions.specs.declared.entry.Entry.{Entry}
 use Rattle.shard_versions.specs.declared.tree.Node.{Node}
 use Rattle.shard_versions.specs.Histories.{History}
-use Rattle.shard_versions.specs.Places.{last_where}
-use Rattle.shard_versions.specs.Trees.{place_at, below, on_side, way, idle, passes, Leads, IsIndex, Comes, Stops, leaf, no_node, linked, moved}
+use Rattle.shard_versions.specs.Trees.{place_at, below, way, idle, passes, Leads, IsIndex, Stops}
 use Rattle.shard_versions.proofs.PlaceLemmas.{last_where-push}
-use Rattle.shard_versions.proofs.TreeLemmas.{way-ends, way-some, way-few, way-grows, way-same, way-alike, passes-append, passes-last, last_of, last-passes, both, place-few, ways}
+use Rattle.shard_versions.proofs.TreeLemmas.{way-some, way-grows, way-same, way-alike, passes-append, passes-last, last_of, last-passes, place-few, ways}
 
 -- two keys that no entry and no way tells apart
 pub record Alike {X : Type 0} (test : X → Kind → Bool) (side : X → ℕ → Bool) (tag : X → ℕ) (x y : X) : Type 0 where

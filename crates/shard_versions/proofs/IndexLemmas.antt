@@ -1,10 +1,10 @@
 -- What a shard keeps beside its entries, with one more entry and at each place.
-use Rattle.std.proofs.Common.{◌≡◌, ℕ, zero, suc, ◌+◌, ◌*◌, ◌^◌, ◌<◌, ◌≤◌, max, ◌||◌, ◌&&◌, Bool, true, false, cond, List, [], ◌∷◌, ◌++◌, length, get_or, set, take, drop, map, Option, Some, None, refl, sym, ap, subst, ◌∙◌, arith, append_assoc, bytes_eq, ltb, leb}
-use Rattle.std.specs.Prelude.{unwrap_or, nat_lt, nat_le}
-use Rattle.std.proofs.lemmas.List.{append-nil, take_more}
+use Rattle.std.proofs.Common.{◌≡◌, ℕ, zero, suc, ◌+◌, ◌<◌, max, ◌&&◌, Bool, true, false, cond, List, [], ◌∷◌, ◌++◌, length, get_or, set, take, drop, Option, Some, None, refl, sym, ap, subst, ◌∙◌, arith, append_assoc, bytes_eq}
+use Rattle.std.specs.Prelude.{unwrap_or, nat_lt}
+use Rattle.std.proofs.lemmas.List.{append-nil}
 use Rattle.std.proofs.lemmas.Bool.Decides.{nat_tests}
 use Rattle.std.proofs.lemmas.Slice.Eq.{bytes_eq-Decides}
-use Rattle.tuple_values.specs.Document.{ByteList, Doc}
+use Rattle.tuple_values.specs.Document.{ByteList}
 use Rattle.shard_versions.specs.Documents.{id_of}
 use Rattle.shard_versions.specs.declared.entry.Kind.{Kind}
 use Rattle.shard_versions.specs.declared.entry.Kind.TheVariants.{Put, Del, Sent, Mark}
@@ -13,7 +13,6 @@ use Rattle.shard_versions.specs.Histories.{History}
 use Rattle.shard_versions.specs.Deliveries.{sent_version, sents, are_below}
 use Rattle.shard_versions.specs.Places.{placed, last_where}
 use Rattle.shard_versions.specs.Indexes.{written_id, is_id, is_write_of, is_delivery, first_place, next_of, nexts_of, before_of, relinked, greater, greatest, so_far, greatests_after}
-use Rattle.shard_versions.proofs.DeliveryLemmas.{sents-append}
 
 -- an entry that does nothing
 abbrev pub no_entry : Entry
@@ -78,7 +77,7 @@ first_place-some id at (x ∷ h) m z =
     go (suc n) false z f = f n refl
 
 -- byte lists that aren't equal aren't equal the other way round
-bytes_eq-flipped : (a b : ByteList) → bytes_eq a b ≡ false → bytes_eq b a ≡ false
+pub bytes_eq-flipped : (a b : ByteList) → bytes_eq a b ≡ false → bytes_eq b a ≡ false
 bytes_eq-flipped a b h = go (bytes_eq b a) refl
   where
     go : (c : Bool) → bytes_eq b a ≡ c → bytes_eq b a ≡ false

@@ -15,3 +15,5 @@ pub mod FitLemmas
 pub mod ReadingLemmas
 pub mod LogLemmas
 pub mod StoredLemmas
+pub mod CurrentLemmas
+pub mod RisingLemmas

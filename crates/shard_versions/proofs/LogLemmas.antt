@@ -1,11 +1,11 @@
 -- A log with one more entry, and its entries at each place.
-use Rattle.std.proofs.Common.{◌≡◌, ℕ, zero, suc, ◌+◌, ◌-◌, ◌<◌, ◌≤◌, Bool, true, false, List, [], ◌∷◌, ◌++◌, length, get_or, take, drop, map, Option, Some, None, refl, sym, ap, subst, ◌∙◌, arith, append_assoc, length-append, drop-cons, add-one}
+use Rattle.std.proofs.Common.{◌≡◌, ℕ, zero, suc, ◌+◌, ◌-◌, ◌<◌, ◌≤◌, Bool, true, false, List, [], ◌∷◌, ◌++◌, length, get_or, take, drop, map, Some, None, refl, sym, ap, subst, ◌∙◌, arith, append_assoc, length-append, drop-cons, add-one}
 use Rattle.std.specs.Prelude.{unwrap_or, option_to_list, not, ◌&&◌}
 use Rattle.std.specs.Option.{is_some}
 use Rattle.std.specs.declared.cmp.Ordering.{Ordering}
 use Rattle.std.specs.declared.cmp.Ordering.TheVariants.{Less, Equal, Greater}
-use Rattle.std.proofs.lemmas.List.{append-nil, take_more, take-append-drop, get_or-append_right, get_or-map, map-append, get_or_default, length-map, length-drop}
-use Rattle.tuple_values.specs.Document.{ByteList, Datum, long, Doc, bytes_cmp, value_at, put, put_by, without}
+use Rattle.std.proofs.lemmas.List.{append-nil, take_more, take-append-drop, get_or-append_right, get_or-map, map-append, length-map, length-drop}
+use Rattle.tuple_values.specs.Document.{ByteList, Datum, Doc, bytes_cmp, value_at, put, put_by, without}
 use Rattle.tuple_values.proofs.BytesLemmas.{itself, bytes_by}
 use Rattle.tuple_values.proofs.MapLemmas.{value_without_other}
 use Rattle.shard_segments.specs.declared.slot.Slot as segments

@@ -1,13 +1,12 @@
 -- The slots at the places of the current documents hold just these.
-use Rattle.std.proofs.Common.{◌≡◌, ℕ, suc, ◌+◌, ◌<◌, ◌≤◌, ◌&&◌, not, Bool, true, false, cond, List, [], ◌∷◌, ◌++◌, length, get_or, take, map, Option, Some, None, refl, sym, ap, subst, ◌∙◌, arith, append_assoc, length-append}
+use Rattle.std.proofs.Common.{◌≡◌, ℕ, suc, ◌+◌, ◌<◌, ◌&&◌, not, Bool, true, false, cond, List, [], ◌∷◌, ◌++◌, length, get_or, take, map, Option, Some, None, refl, sym, ap, subst, ◌∙◌, arith, append_assoc, length-append}
 use Rattle.std.specs.Prelude.{IsSome, is_some, unwrap_or, option_map}
-use Rattle.std.specs.List.{AllByRecursion}
-use Rattle.std.proofs.lemmas.List.{map-append, length-map, take-append-le}
+use Rattle.std.proofs.lemmas.List.{map-append, length-map}
 use Rattle.std.proofs.Math.Seq.{get_or-append_seam, take-append_seam}
 use Rattle.tuple_values.specs.Document.{Doc}
 use Rattle.shard_segments.specs.declared.slot.Slot as segments
 use Rattle.shard_versions.specs.Documents.{with_version}
-use Rattle.shard_versions.specs.Histories.{History, Slot, slots, settled, committed, last_version, top, writes_id, kept, latest, current}
+use Rattle.shard_versions.specs.Histories.{History, Slot, slots, settled, committed, top, writes_id, kept, latest, current}
 use Rattle.shard_versions.specs.Stored.{kept_slot, latest_places, stored, places_of, no_slot, pair_at, last_stored}
 use Rattle.shard_versions.specs.Snapshots.{AreHeld}
 use Rattle.shard_versions.proofs.VersionLemmas.{settled-begins, slots-grow}

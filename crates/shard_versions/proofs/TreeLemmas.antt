@@ -1,6 +1,6 @@
 -- Ways in a tree, and where a walk ends.
-use Rattle.std.proofs.Common.{◌≡◌, ℕ, zero, suc, ◌+◌, ◌-◌, ◌<◌, ◌≤◌, Bool, true, false, cond, eqb, List, [], ◌∷◌, ◌++◌, length, get_or, refl, sym, ap, subst, ◌∙◌, arith, inl, inr, add-one}
-use Rattle.std.specs.Prelude.{unwrap_or, nat_eq, Option, Some, None, Result, Ok, Err, OnOk, is_ok}
+use Rattle.std.proofs.Common.{◌≡◌, ℕ, zero, suc, ◌+◌, ◌<◌, ◌≤◌, Bool, true, false, cond, eqb, List, [], ◌∷◌, ◌++◌, length, get_or, refl, sym, ap, ◌∙◌, arith, inl, inr, add-one}
+use Rattle.std.specs.Prelude.{unwrap_or, nat_eq, Some, Result, Ok, Err, OnOk, is_ok}
 use Rattle.std.specs.HashMap.{HashMap, get, Updates}
 use Rattle.std.proofs.lemmas.Bool.{cases_lt}
 use Rattle.std.proofs.lemmas.List.{get_or_append_left}
@@ -11,7 +11,7 @@ use Rattle.shard_versions.specs.declared.tree.Node.{Node}
 use Rattle.shard_versions.specs.Histories.{History}
 use Rattle.shard_versions.specs.Places.{placed, last_where}
 use Rattle.shard_versions.specs.Trees.{place_at, below, way, idle, passes, Leads, IsIndex, Comes, Stops}
-use Rattle.shard_versions.proofs.PlaceLemmas.{last_where-push, last_where-bound, last_where-found}
+use Rattle.shard_versions.proofs.PlaceLemmas.{last_where-found}
 
 -- a way that has ended goes no further
 pub way-ends : (side : ℕ → Bool) (nodes : List Node) (first d e : ℕ) → d ≤ e

@@ -3,10 +3,9 @@
 use Rattle.std.proofs.Common.{◌≡◌, ℕ, ◌+◌, ◌<◌, ◌≤◌, ◌==◌, ◌||◌, Bool, true, false, cond, List, [], ◌∷◌, ◌++◌, Option, Some, None, refl, sym, ap, subst, ◌∙◌, arith, append_assoc, bytes_eq}
 use Rattle.std.specs.List.{AllByRecursion}
 use Rattle.tuple_values.specs.Document.{ByteList, Doc}
-use Rattle.shard_versions.specs.Documents.{id_of, with_version}
+use Rattle.shard_versions.specs.Documents.{with_version}
 use Rattle.shard_versions.specs.declared.entry.Kind.{Kind}
 use Rattle.shard_versions.specs.declared.entry.Kind.TheVariants.{Put, Del, Sent, Mark}
-use Rattle.shard_versions.specs.declared.entry.Entry.{Entry}
 use Rattle.shard_versions.specs.Histories.{History, Slot, slots, slots_after, slot_of, version_after, write_at, Ascend, IsVersioned, is_mark, has_mark, settled, committed, last_version, top, writes_id, kept, latest, current}
 use Rattle.shard_versions.proofs.ListLemmas.{each_append, each_left, each_right, each_weaker}
 

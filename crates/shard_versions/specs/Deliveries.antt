@@ -1,7 +1,7 @@
 -- What is delivered to a shard, each version at most once and rising (own).
 use Rattle.std.specs.Prelude.{◌≡◌, ℕ, ◌<◌, ◌≤◌, nat_lt, Bool, true, false, ◌&&◌, List, [], ◌∷◌, ◌++◌, bytes_eq, if◌then◌else◌, ◌⊎◌}
 use Rattle.std.specs.List.{AllByRecursion}
-use Rattle.tuple_values.specs.Document.{ByteList, Doc}
+use Rattle.tuple_values.specs.Document.{ByteList}
 use Rattle.shard_versions.specs.Documents.{id_of}
 use Rattle.shard_versions.specs.Histories.{History, has_mark}
 use Rattle.shard_versions.specs.declared.entry.Kind.{Kind}

@@ -1,7 +1,6 @@
 -- Which entries a shard takes (own).
 use Rattle.std.specs.Prelude.{◌≡◌, ℕ, ◌==◌, Bool, true, ◌&&◌, List}
 use Rattle.std.specs.List.{AllByRecursion}
-use Rattle.tuple_values.specs.Document.{ByteList}
 use Rattle.tuple_values.specs.Keys.{shard_of}
 use Rattle.shard_versions.specs.Documents.{id_of, is_storable}
 use Rattle.shard_versions.specs.declared.entry.Kind.{Kind}

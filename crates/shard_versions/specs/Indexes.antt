@@ -1,14 +1,13 @@
 -- What a shard keeps beside its entries: the place of each next write of an id, and the greatest
 -- version that was delivered so far (own).
-use Rattle.std.specs.Prelude.{ℕ, zero, suc, ◌+◌, ◌*◌, ◌^◌, ◌≡◌, ◌<◌, ◌≤◌, nat_le, nat_lt, max, min, ◌-◌, Bool, false, ◌&&◌, List, [], ◌∷◌, ◌++◌, length, map, slice_set, Option, Some, None, unwrap_or, bytes_eq, if◌then◌else◌}
+use Rattle.std.specs.Prelude.{ℕ, zero, suc, nat_le, nat_lt, nat_eq, max, Bool, false, ◌&&◌, List, [], ◌∷◌, ◌++◌, slice_set, Option, Some, None, unwrap_or, bytes_eq, if◌then◌else◌}
 use Rattle.tuple_values.specs.Document.{ByteList, Doc}
-use Rattle.shard_versions.specs.Documents.{id_of, with_version}
-use Rattle.shard_versions.specs.Histories.{History, settled}
+use Rattle.shard_versions.specs.Documents.{id_of}
+use Rattle.shard_versions.specs.Histories.{History}
 use Rattle.shard_versions.specs.Deliveries.{sents}
 use Rattle.shard_versions.specs.Places.{last_where}
 use Rattle.shard_versions.specs.declared.entry.Kind.{Kind}
 use Rattle.shard_versions.specs.declared.entry.Kind.TheVariants.{Put, Del, Sent, Mark}
-use Rattle.shard_versions.specs.declared.entry.Entry.{Entry}
 
 -- the id that the entry writes
 abbrev pub written_id : Kind → Option ByteList
@@ -87,6 +86,14 @@ left_of (Put doc) = Some doc
 left_of (Del id) = None
 left_of (Sent src version doc) = Some doc
 left_of Mark = None
+
+-- whether each write is still current with one more entry, where this is the place of the write
+-- before of its id
+abbrev pub stays_current : Bool → ℕ → Kind → Bool
+stays_current all_current before (Put doc) = all_current && nat_eq before 0
+stays_current all_current before (Del id) = false
+stays_current all_current before (Sent src version doc) = all_current && nat_eq before 0
+stays_current all_current before Mark = all_current
 
 -- the next write stands among the first so many entries
 abbrev pub is_replaced : ℕ → ℕ → Bool

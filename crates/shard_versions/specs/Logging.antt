@@ -1,5 +1,5 @@
 -- When a log is right (own).
-use Rattle.std.specs.Prelude.{ℕ, ◌-◌, ◌≡◌, min, List, ◌++◌, map, vec_len, vec_capacity}
+use Rattle.std.specs.Prelude.{◌-◌, ◌≡◌, min, List, ◌++◌, map, vec_len, vec_capacity}
 use Rattle.shard_segments.specs.declared.slot.Slot as segments
 use Rattle.shard_versions.specs.Histories.{slots}
 use Rattle.shard_versions.specs.Stored.{kept_slot}

@@ -1,5 +1,5 @@
 -- What a shard keeps of each entry beside the slots of its writes (own).
-use Rattle.std.specs.Prelude.{ℕ, ◌+◌, ◌-◌, ◌≡◌, min, List, [], ◌∷◌, ◌++◌, length, map, unwrap_or, option_to_list, slice_index_or, vec_len, vec_capacity, refl}
+use Rattle.std.specs.Prelude.{ℕ, ◌+◌, ◌≡◌, List, [], ◌∷◌, map, unwrap_or, option_to_list, slice_index_or, refl}
 use Rattle.std.specs.Coded.{Coded, code_by, coded×, coded_ℕ, coded_list}
 use Rattle.tuple_values.specs.Document.{Doc, without}
 use Rattle.shard_segments.specs.declared.slot.Slot as segments

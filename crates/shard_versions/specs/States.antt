@@ -1,9 +1,9 @@
 -- When what a shard keeps beside its entries is right (own).
-use Rattle.std.specs.Prelude.{ℕ, ◌+◌, ◌-◌, ◌^◌, ◌≡◌, ◌<◌, ◌≤◌, min, true, false, List, [], length, map, vec_len, vec_capacity}
+use Rattle.std.specs.Prelude.{◌+◌, ◌-◌, ◌^◌, ◌≡◌, ◌<◌, ◌≤◌, min, true, false, [], length, map, vec_len, vec_capacity}
 use Rattle.shard_versions.specs.Histories.{settled, slots, last_version}
 use Rattle.shard_versions.specs.Logs.{made_entry, AreMade}
 use Rattle.shard_versions.specs.Sizes.{entries_bytes}
-use Rattle.shard_versions.specs.Fitness.{AreStorable}
+use Rattle.shard_versions.specs.Stored.{AreLatest}
 use Rattle.shard_versions.specs.Indexes.{nexts_of, greatests_after}
 use Rattle.shard_versions.specs.Trees.{Finds, room_of}
 use Rattle.shard_versions.specs.Shards.{Shard}
@@ -19,6 +19,7 @@ pub record IsState (s : Inside) : Type 0 where
   pub greatests : s.greatests.items ≡ greatests_after [] s.log.entries
   pub ids : Finds false s.ids s.log.entries
   pub sends : Finds true s.sends s.log.entries
+  pub current : s.all_current ≡ true → AreLatest (slots s.log.entries)
   pub closed : s.closed ≡ length (settled s.log.entries)
   pub bytes : s.bytes ≡ min (entries_bytes s.log.entries) (2 ^ 64 - 1)
   pub ready : AreMade (last_version 0 (slots s.log.entries)) s.ready.items

@@ -1,5 +1,5 @@
 -- The slots that a shard keeps of its writes, and the places of the current ones among them (own).
-use Rattle.std.specs.Prelude.{ℕ, ◌+◌, not, ◌&&◌, List, [], ◌∷◌, ◌++◌, map, Option, None, is_some, unwrap_or, option_map, slice_index_or, if◌then◌else◌}
+use Rattle.std.specs.Prelude.{ℕ, ◌+◌, ◌≡◌, true, false, not, ◌&&◌, List, [], ◌∷◌, ◌++◌, map, None, is_some, unwrap_or, option_map, slice_index_or, if◌then◌else◌}
 use Rattle.tuple_values.specs.Document.{Doc}
 use Rattle.shard_segments.specs.declared.slot.Slot as segments
 use Rattle.shard_versions.specs.Documents.{with_version}
@@ -15,6 +15,12 @@ latest_places at [] = []
 latest_places at (s ∷ ss) =
     (if is_some s.left && not (writes_id s.id ss) then at ∷ [] else [])
     ++ latest_places (at + 1) ss
+
+-- each of the writes leaves a document that no later one replaces or deletes
+abbrev pub AreLatest : List Slot → Type 0
+AreLatest [] = Unit {0}
+AreLatest (s ∷ ss) =
+    (is_some s.left ≡ true) × (writes_id s.id ss ≡ false) × AreLatest ss
 
 -- the writes before the last Mark as they are kept
 unfoldable pub stored : History → List segments.Slot

@@ -1,7 +1,7 @@
 -- The trees by which a shard finds the last write of an id, and the last delivery of an id from a
 -- source: a node for each, below the first one of its tag, where its bits lead (own).
-use Rattle.std.specs.Prelude.{ℕ, zero, suc, ◌+◌, ◌-◌, ◌*◌, ◌/◌, ◌%◌, ◌^◌, ◌≡◌, ◌<◌, ◌≤◌, nat_lt, nat_eq, min, Bool, true, false, List, [], ◌∷◌, ◌++◌, length, slice_set, slice_index_or, unwrap_or, bit_xor, vec_len, vec_capacity, if◌then◌else◌}
-use Rattle.std.specs.HashMap.{HashMap, get, spare}
+use Rattle.std.specs.Prelude.{ℕ, zero, suc, ◌+◌, ◌-◌, ◌*◌, ◌/◌, ◌%◌, ◌^◌, ◌≡◌, ◌<◌, ◌≤◌, nat_lt, nat_eq, min, Bool, true, false, List, [], ◌∷◌, length, slice_set, slice_index_or, unwrap_or, bit_xor, vec_len, vec_capacity, if◌then◌else◌}
+use Rattle.std.specs.HashMap.{get, spare}
 use Rattle.tuple_values.specs.Document.{ByteList}
 use Rattle.tuple_values.specs.Keys.{hash_of}
 use Rattle.shard_versions.specs.Histories.{History}

@@ -131,6 +131,7 @@ pub fn snapshot_of(alloc: Global, history: &[Entry]) -> Result<Snapshot, Memory>
         reached: last_of(&chunks),
         seen: history.len() as u64,
         chunks,
+        all_current: false,
         places,
     })
 }

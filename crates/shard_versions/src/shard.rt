@@ -1,9 +1,9 @@
 // The state of a shard.
-ghost use Rattle.std.specs.Prelude.{◌≡◌, ◌+◌, ◌-◌, ◌<◌, ◌≤◌, ◌^◌, ◌++◌, ◌∷◌, ◌↔◌, [], length, min, IsErrOf, OnErr, OnOk, IfOk, List, if◌then◌else◌};
+ghost use Rattle.std.specs.Prelude.{false, ◌≡◌, ◌+◌, ◌-◌, ◌<◌, ◌≤◌, ◌^◌, ◌++◌, ◌∷◌, ◌↔◌, [], length, min, IsErrOf, OnErr, OnOk, IfOk, List, if◌then◌else◌};
 ghost use Rattle.shard_versions.specs.declared.entry.Entry.{Entry};
 ghost use Rattle.shard_versions.specs.Histories.{is_mark, is_pending, settled, slots, last_version, top, current};
 ghost use Rattle.shard_versions.specs.Stored.{stored, places_of};
-ghost use Rattle.shard_versions.specs.Indexes.{nexts_of};
+ghost use Rattle.shard_versions.specs.Indexes.{nexts_of, stays_current};
 ghost use Rattle.shard_versions.specs.Logs.{made_entry, IsMade};
 ghost use Rattle.shard_versions.specs.Deliveries.{admits};
 ghost use Rattle.shard_versions.specs.Fitness.{AreStorable};
@@ -24,13 +24,15 @@ use tuple_values::{Memory, Text};
 
 /// A shard with its whole history. What it keeps beside the entries, it keeps by their places,
 /// each counted from 1, with 0 for none: of each write the next one of its id, of each delivery
-/// the greatest version so far of its source and id, and where the last Mark stands.
+/// the greatest version so far of its source and id, and where the last Mark stands. Until a write
+/// replaces or deletes a document it knows that all are current.
 pub struct ShardState {
     log: Log,
     nexts: Vec<usize>,
     greatests: Vec<u64>,
     ids: Tree,
     sends: Tree,
+    all_current: bool,
     closed: usize,
     bytes: u64,
     limit: u64,
@@ -46,6 +48,7 @@ impl Drop for ShardState {
             greatests,
             ids,
             sends,
+            all_current: _,
             closed: _,
             bytes: _,
             limit: _,
@@ -80,7 +83,7 @@ impl Model for ShardState {
 
 impl ShardState {
     /// The shard of no entry, with a limit on counted bytes.
-    #[tactic(auto, using(crate::proofs::FindLemmas::finds_steps), unfolding(crate::specs::Indexes::nexts_of, crate::specs::Indexes::greatests_after, crate::specs::Histories::settled))]
+    #[tactic(auto, using(crate::proofs::FindLemmas::finds_steps), unfolding(crate::specs::Indexes::nexts_of, crate::specs::Indexes::greatests_after, crate::specs::Histories::settled, crate::specs::Histories::slots, crate::specs::Histories::slots_after))]
     pub fn empty(alloc: Global, limit: u64) -> ShardState
         requires { limit ≤ 268435456 }
         ensures entries { result.entries ≡ [] }
@@ -92,6 +95,7 @@ impl ShardState {
             greatests: Vec::new(alloc),
             ids: Tree::empty(alloc),
             sends: Tree::empty(alloc),
+            all_current: true,
             closed: 0,
             bytes: 0,
             limit,
@@ -150,11 +154,13 @@ impl ShardState {
         ensures places { IfOk result (λ s. s.places ≡ places_of self.now.entries) }
     {
         let chunks = self.log.share(alloc, self.log.at(self.closed))?;
-        let places = current_places(alloc, &self.log, &self.nexts, self.closed)?;
+        let all_current = self.all_current;
+        let places = kept_places(alloc, &self.log, &self.nexts, self.closed, all_current)?;
         Ok(Snapshot {
             reached: last_of(&chunks),
             seen: self.log.len() as u64,
             chunks,
+            all_current,
             places,
         })
     }
@@ -229,6 +235,7 @@ impl ShardState {
         let before = note_write(&self.log, &mut self.ids, &entry.kind);
         let greatest = note_delivery(&self.log, &self.greatests, &mut self.sends, &entry.kind);
         relink(&mut self.nexts, before, place);
+        self.all_current = stays_current(self.all_current, before, &entry.kind);
         self.nexts.push_reserved(0);
         self.greatests.push_reserved(greatest);
         self.closed = closed_with(self.closed, place, &entry.kind);
@@ -236,6 +243,26 @@ impl ShardState {
         self.room -= 1;
         self.log.push(made);
     }
+}
+
+// The places of the current ones among the slots of the writes, which are kept only where some write
+// isn't current.
+fn kept_places(
+    alloc: Global,
+    log: &Log,
+    nexts: &[usize],
+    closed: usize,
+    all_current: bool,
+) -> Result<Vec<u64>, Memory>
+    requires nexts { nexts.now ≡ nexts_of 0 log.now.entries }
+    requires closed { closed ≡ length (settled log.now.entries) }
+    ensures { IfOk result (λ places.
+        all_current ≡ false → places.items ≡ places_of log.now.entries) }
+{
+    if all_current {
+        return Ok(Vec::new(alloc));
+    }
+    current_places(alloc, log, nexts, closed)
 }
 
 // The places, among the slots of the writes, of those whose documents are current.
@@ -260,6 +287,19 @@ fn current_places(
         )?;
     }
     Ok(places)
+}
+
+// Whether each write is current with one more entry, where this is the place of the write before of
+// its id.
+fn stays_current(all_current: bool, before: usize, kind: &Kind) -> bool
+    ensures { result ≡ stays_current all_current before kind.now }
+{
+    match kind {
+        Kind::Put(_) => all_current && before == 0,
+        Kind::Del(_) => false,
+        Kind::Sent { .. } => all_current && before == 0,
+        Kind::Mark => all_current,
+    }
 }
 
 /// How many entries there are up to the last Mark, with one more entry at this place.

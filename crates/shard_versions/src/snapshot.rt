@@ -1,5 +1,5 @@
 // A shard as it was read.
-ghost use Rattle.std.specs.Prelude.{◌≡◌, ◌+◌, ◌<◌, ◌^◌, ◌++◌, ◌∷◌, [], ◌&&◌, not, if◌then◌else◌, OnOk, Some, length, slice_index, slice_index_or, option_copied};
+ghost use Rattle.std.specs.Prelude.{◌≡◌, ◌≤◌, ◌+◌, ◌<◌, ◌^◌, ◌++◌, ◌∷◌, [], ◌&&◌, not, if◌then◌else◌, OnOk, Some, length, drop, filter, nat_lt, slice_index, slice_index_or, option_copied};
 ghost use Rattle.shard_versions.specs.Histories.{version_after};
 ghost use Rattle.shard_versions.specs.Indexes.{left_of};
 
@@ -9,11 +9,12 @@ use std::marker::Model;
 use tuple_values::{Memory, Tuple};
 
 /// A shard as it was read: its top, the number of entries seen, the slots of its writes up to the
-/// top, and the places of the current ones among them.
+/// top, and whether each of these is current; where not, the places of those that are.
 pub struct Snapshot {
     pub(crate) reached: u64,
     pub(crate) seen: u64,
     pub(crate) chunks: Chunks,
+    pub(crate) all_current: bool,
     pub(crate) places: Vec<u64>,
 }
 
@@ -23,6 +24,7 @@ impl Drop for Snapshot {
             reached: _,
             seen: _,
             chunks,
+            all_current: _,
             places,
         } = self;
         drop(chunks);
@@ -40,11 +42,11 @@ impl Model for Snapshot {
 
     ghost coded = { shown_code (Prim.hlevel (codes, slot.the_row.coded)) };
 
-    ghost use Rattle.shard_versions.specs.Snapshots.{shown_in, AreHeld};
+    ghost use Rattle.shard_versions.specs.Snapshots.{shown_in, IsShown};
 
     ghost view = { shown_in };
 
-    ghost invariant = { λ s. AreHeld s.chunks.slots s.places.items };
+    ghost invariant = { IsShown };
 }
 
 impl Snapshot {
@@ -66,7 +68,11 @@ impl Snapshot {
     pub fn count(&self) -> u64
         ensures { result ≡ length self.now.documents }
     {
-        self.places.len() as u64
+        if self.all_current {
+            self.chunks.len()
+        } else {
+            self.places.len() as u64
+        }
     }
 
     /// The version of the k-th current document, counted from 0 by version.
@@ -74,7 +80,7 @@ impl Snapshot {
         requires { k < length self.now.documents }
         ensures { (d : _) → result ≡ (slice_index_or self.now.documents k d).0 }
     {
-        self.chunks.get(self.places[k as usize]).version
+        self.chunks.get(self.place(k)).version
     }
 
     /// The k-th current document, with its version in the field `_version_`.
@@ -82,10 +88,32 @@ impl Snapshot {
         requires { k < length self.now.documents }
         ensures { (d : _) → result.now ≡ (slice_index_or self.now.documents k d).1 }
     {
-        match &self.chunks.get(self.places[k as usize]).document {
+        match &self.chunks.get(self.place(k)).document {
             Some(document) => document.tuple(),
             None => unreachable!(),
         }
+    }
+
+    /// The place, counted from 0, of the first current document whose version is above `low`, and how
+    /// many there are where there is none. Looks at some log n of them, and takes no memory.
+    pub fn first_above(&self, low: u64) -> u64
+        ensures bound { result ≤ length self.now.documents }
+        ensures above { filter (λ d. nat_lt low d.0) self.now.documents
+            ≡ drop result self.now.documents }
+    {
+        // The invariant says that versions rise.
+        let _ = &self.all_current;
+        let mut from = 0;
+        let mut end = self.count();
+        while from < end {
+            let middle = from + (end - from) / 2;
+            if self.version(middle) > low {
+                end = middle;
+            } else {
+                from = middle + 1;
+            }
+        }
+        from
     }
 
     /// The slots of the shard's writes up to the top, in their order. Takes no memory.
@@ -106,7 +134,11 @@ impl Snapshot {
               document = Some (slice_index_or self.now.documents k e).1;
             } }
     {
-        self.places[k as usize]
+        if self.all_current {
+            k
+        } else {
+            self.places[k as usize]
+        }
     }
 }
 

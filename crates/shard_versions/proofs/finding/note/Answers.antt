@@ -1,5 +1,5 @@
-use Rattle.std.proofs.Common.{rules, ◌≡◌, ◌+◌, ◌<◌, ◌≤◌, true, false, cond, eqb, arith, sym, ◌∙◌, ap, length}
-use Rattle.shard_versions.specs.Trees.{is_at, tag_of, first_of, passes, place_at}
+use Rattle.std.proofs.Common.{◌+◌, cond, eqb, sym, ◌∙◌, ap, length}
+use Rattle.shard_versions.specs.Trees.{is_at, first_of, passes}
 use Rattle.shard_versions.proofs.FindLemmas.{finds-none, finds-last, finds-missed, finds-planted, finds-moved, finds-attached}
 use Rattle.shard_versions.proofs.finding.note.Goals as goal
 

@@ -1,6 +1,6 @@
-use Rattle.std.proofs.Common.{rules, ◌≡◌, ◌+◌, ◌-◌, ◌<◌, ◌≤◌, arith, sym, ◌∙◌, ap, length}
+use Rattle.std.proofs.Common.{arith, sym, ◌∙◌, ap}
 use Rattle.shard_versions.specs.Trees.{side_of}
-use Rattle.shard_versions.proofs.FindLemmas.{finds-begins, finds-goes, finds-stops, finds-here, finds-place}
+use Rattle.shard_versions.proofs.FindLemmas.{finds-begins, finds-goes}
 use Rattle.shard_versions.proofs.finding.stop.Goals as goal
 
 pub walk-init : goal.walk-init

@@ -1,6 +1,6 @@
-use Rattle.std.proofs.Common.{◌≡◌, ◌<◌, ◌||◌, ◌+◌, [], ℕ, Bool, true, false, length, get_or, take, arith, sym, ap, ◌∙◌}
+use Rattle.std.proofs.Common.{◌||◌, [], get_or, arith, sym, ap, ◌∙◌}
 use Rattle.tuple_values.specs.Document.{ByteList, Datum, text}
-use Rattle.shard_versions.specs.Documents.{is_group, has_group}
+use Rattle.shard_versions.specs.Documents.{is_group}
 use Rattle.shard_versions.proofs.FitLemmas.{has_group-more, has_group-at}
 use Rattle.shard_versions.proofs.fitness.has_group.Goals as goal
 

@@ -1,4 +1,4 @@
-use Rattle.std.proofs.Common.{rules, ◌≡◌, ◌<◌, ◌-◌, arith}
+use Rattle.std.proofs.Common.{rules, arith}
 use Rattle.shard_versions.proofs.SentLemmas.{greatest-none, greatest-some}
 use Rattle.shard_versions.proofs.index.greatest_at.Goals as goal
 

@@ -1,4 +1,4 @@
-use Rattle.std.proofs.Common.{rules, ◌≡◌, ◌≤◌, [], arith, ap, length}
+use Rattle.std.proofs.Common.{[], arith, ap, length}
 use Rattle.shard_versions.specs.declared.entry.Entry.{Entry}
 use Rattle.shard_versions.specs.Indexes.{is_delivery}
 use Rattle.shard_versions.proofs.PlaceLemmas.{last_where-bound}

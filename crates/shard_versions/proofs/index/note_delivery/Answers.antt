@@ -1,4 +1,4 @@
-use Rattle.std.proofs.Common.{rules, true, ap, ◌∙◌}
+use Rattle.std.proofs.Common.{true, ap, ◌∙◌}
 use Rattle.shard_versions.specs.Indexes.{is_delivery}
 use Rattle.shard_versions.proofs.FindLemmas.{finds-skips}
 use Rattle.shard_versions.proofs.index.note_delivery.Goals as goal

@@ -1,4 +1,4 @@
-use Rattle.std.proofs.Common.{rules, false, ap, sym, ◌∙◌}
+use Rattle.std.proofs.Common.{false, ap, sym, ◌∙◌}
 use Rattle.shard_versions.specs.Indexes.{written_id, is_id}
 use Rattle.shard_versions.proofs.FindLemmas.{finds-skips}
 use Rattle.shard_versions.proofs.index.note_write.Goals as goal

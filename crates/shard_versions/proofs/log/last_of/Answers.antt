@@ -1,4 +1,4 @@
-use Rattle.std.proofs.Common.{◌≡◌, ◌-◌, arith, sym, ap, ◌∙◌}
+use Rattle.std.proofs.Common.{◌-◌, arith, sym, ap, ◌∙◌}
 use Rattle.shard_segments.specs.declared.slot.Slot as segments
 use Rattle.shard_versions.proofs.LogLemmas.{last_stored-at}
 use Rattle.shard_versions.proofs.log.last_of.Goals as goal

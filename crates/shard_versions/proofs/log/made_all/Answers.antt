@@ -1,7 +1,7 @@
 use Rattle.std.proofs.Common.{◌≡◌, ◌++◌, ◌∷◌, [], true, ap, sym, ◌∙◌, map, take, arith}
 use Rattle.std.proofs.lemmas.List.{map-append, take_more}
 use Rattle.shard_versions.specs.Fitness.{is_storable_kind, AreStorable}
-use Rattle.shard_versions.specs.Logs.{made_entry, AreMade}
+use Rattle.shard_versions.specs.Logs.{made_entry}
 use Rattle.shard_versions.specs.Histories.{version_after}
 use Rattle.shard_versions.specs.declared.entry.Entry.{Entry}
 use Rattle.shard_versions.proofs.ListLemmas.{each_at}

@@ -1,5 +1,5 @@
-use Rattle.std.proofs.Common.{arith, ◌∙◌, ◌≡◌, ◌&&◌, ◌==◌, not, ap, sym, refl}
-use Rattle.shard_versions.specs.Histories.{is_mark, slots, version_after}
+use Rattle.std.proofs.Common.{arith, ◌∙◌, ◌&&◌, ◌==◌, not, ap, sym, refl}
+use Rattle.shard_versions.specs.Histories.{is_mark, slots}
 use Rattle.shard_versions.proofs.SnapshotLemmas.{version_after-next}
 use Rattle.shard_versions.proofs.ReadingLemmas.{document-here, document-goes, document-none}
 use Rattle.shard_versions.proofs.reading.document_at.Goals as goal

@@ -1,11 +1,13 @@
-use Rattle.std.proofs.Common.{rules, ◌≡◌, ◌+◌, ◌<◌, ◌≤◌, ◌∙◌, ℕ, List, length, take, get_or, arith, sym, ap, refl}
+use Rattle.std.proofs.Common.{◌≡◌, ◌∙◌, List, length, take, get_or, arith, sym, ap, refl, subst}
 use Rattle.std.proofs.lemmas.List.{length-take}
 use Rattle.std.specs.Prelude.{is_some}
-use Rattle.shard_versions.specs.Histories.{settled, slots, slots_after, top, current}
+use Rattle.shard_versions.specs.Histories.{slots, slots_after}
 use Rattle.shard_versions.specs.Stored.{stored, places_of}
 use Rattle.shard_versions.specs.declared.entry.Entry.{Entry}
 use Rattle.shard_versions.proofs.LogLemmas.{last-few}
 use Rattle.shard_versions.proofs.SnapshotLemmas.{placing-begins, placing-ends, version_after-next}
+use Rattle.shard_versions.specs.Snapshots.{VersionsRise}
+use Rattle.shard_versions.proofs.RisingLemmas.{current-rises}
 use Rattle.shard_versions.proofs.StoredLemmas.{shown-documents, shown-held, shown-top}
 use Rattle.shard_versions.proofs.ReadingLemmas.{snapshot-more, snapshot-ends, is_some-copied}
 use Rattle.shard_versions.proofs.reading.snapshot_of.Goals as goal
@@ -68,8 +70,11 @@ placed c =
     (omega (arith, c.loop-place-test.false, ap length c.settled-entries.ensures)) c.loop-place.invariant.places
 
 pub invariant_of-result : goal.invariant_of-result
-invariant_of-result c =
-    shown-held c.args.history.now c.loop-place.chunks.slots c.loop-place.places.items (held c) (placed c)
+invariant_of-result c = record {
+  held = shown-held c.args.history.now c.loop-place.chunks.slots c.loop-place.places.items (held c) (placed c);
+  rises = subst (VersionsRise 0) (sym (shown-documents c.args.history.now c.loop-place.chunks.slots c.loop-place.places.items (held c) (placed c)))
+      (current-rises c.args.history.now);
+}
 
 pub returns-clause-top : goal.returns-clause-top
 returns-clause-top c =

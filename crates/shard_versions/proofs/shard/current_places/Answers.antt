@@ -1,8 +1,7 @@
-use Rattle.std.proofs.Common.{rules, ◌≡◌, ◌<◌, ◌≤◌, ◌++◌, ◌∷◌, [], ◌&&◌, not, cond, ℕ, List, length, take, get_or, arith, sym, ap, ◌∙◌}
-use Rattle.std.specs.Prelude.{is_some}
+use Rattle.std.proofs.Common.{◌<◌, ◌++◌, ◌∷◌, [], ◌&&◌, not, cond, ℕ, List, length, take, get_or, arith, ap, ◌∙◌}
 use Rattle.std.proofs.lemmas.List.{get_or_default}
 use Rattle.shard_versions.specs.Histories.{settled}
-use Rattle.shard_versions.specs.Indexes.{is_replaced, left_of}
+use Rattle.shard_versions.specs.Indexes.{is_replaced}
 use Rattle.shard_versions.specs.declared.entry.Entry.{Entry}
 use Rattle.shard_versions.proofs.IndexLemmas.{no_entry, nexts_of-length}
 use Rattle.shard_versions.proofs.SettledLemmas.{settled-short}

@@ -1,8 +1,8 @@
-use Rattle.std.proofs.Common.{rules, ◌≡◌, ◌+◌, ◌<◌, ◌≤◌, ◌++◌, ◌∷◌, [], ℕ, List, length, map, take, drop, get_or, sym, ap, subst, ◌∙◌, arith, append_assoc}
+use Rattle.std.proofs.Common.{◌≡◌, ◌++◌, ◌∷◌, [], ℕ, List, length, map, take, sym, ap, subst, ◌∙◌, arith, append_assoc}
 use Rattle.std.proofs.lemmas.List.{append-nil, take_more, take_all}
 use Rattle.shard_versions.specs.Histories.{slots, last_version, version_after}
 use Rattle.shard_versions.specs.Shards.{Shard, HasRoom}
-use Rattle.shard_versions.specs.Logs.{made_entry, IsMade, AreMade}
+use Rattle.shard_versions.specs.Logs.{made_entry, AreMade}
 use Rattle.shard_versions.specs.declared.entry.Entry.{Entry}
 use Rattle.shard_versions.proofs.LogLemmas.{made-first, made-some, last-push}
 use Rattle.shard_versions.proofs.shard.ShardState.append.Goals as goal

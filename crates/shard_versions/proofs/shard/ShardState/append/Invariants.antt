@@ -1,4 +1,4 @@
-use Rattle.std.proofs.Common.{◌≡◌, ◌+◌, ◌++◌, [], length, map, take, drop}
+use Rattle.std.proofs.Common.{◌≡◌, ◌+◌, ◌++◌, [], map, take, drop}
 use Rattle.shard_versions.specs.Histories.{slots, last_version}
 use Rattle.shard_versions.specs.Logs.{made_entry, AreMade}
 use Rattle.shard_versions.proofs.shard.ShardState.append.Given as goal

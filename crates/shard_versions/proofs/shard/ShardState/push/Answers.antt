@@ -1,11 +1,13 @@
-use Rattle.std.proofs.Common.{rules, ◌≡◌, ◌+◌, ◌<◌, ◌≤◌, ◌++◌, ◌∷◌, [], ℕ, List, true, false, length, min, ◌-◌, ◌^◌, map, arith, refl, sym, ap, subst, ◌∙◌, length-append}
+use Rattle.std.proofs.Common.{◌≡◌, ◌+◌, ◌<◌, ◌++◌, ◌∷◌, [], List, true, false, length, min, ◌-◌, ◌^◌, arith, refl, sym, ap, subst, ◌∙◌, length-append}
 use Rattle.shard_versions.specs.declared.entry.Entry.{Entry}
 use Rattle.shard_versions.specs.Histories.{settled, slots, last_version}
 use Rattle.shard_versions.specs.Shards.{Shard}
 use Rattle.shard_versions.proofs.LogLemmas.{AreMade-none}
 use Rattle.shard_versions.specs.Sizes.{entries_bytes}
-use Rattle.shard_versions.specs.Indexes.{written_id, relinked, before_of, so_far, nexts_of, greatests_after}
+use Rattle.shard_versions.specs.Indexes.{written_id, before_of, so_far, nexts_of, greatests_after}
 use Rattle.shard_versions.specs.Trees.{Finds}
+use Rattle.shard_versions.specs.Stored.{AreLatest}
+use Rattle.shard_versions.proofs.CurrentLemmas.{current-push}
 use Rattle.shard_versions.proofs.StateLemmas.{before_of-bound, nexts_with, greatests_with, closed_with, bytes_with}
 use Rattle.shard_versions.proofs.shard.ShardState.push.Goals as goal
 
@@ -38,6 +40,9 @@ invariant_of-self c =
           ∙ ap (greatests_after []) (sym items));
       ids = subst (Finds false c.note_write-before.new.ids) (sym items) (c.note_write-before.ensures.finds e refl);
       sends = subst (Finds true c.note_delivery-greatest.new.sends) (sym items) (c.note_delivery-greatest.ensures.finds e refl);
+      current = λ stays. subst (λ xs. AreLatest (slots xs)) (sym items)
+          (current-push h e c.self.inside.all_current c.note_write-before.result c.self.invariant.current before
+          (sym c.stays_current-self-inside.ensures ∙ stays));
       closed = closed_with h e c.self.inside.closed (c.len-place.result + 1) c.closed_with-self-inside.result c.self.invariant.closed place c.closed_with-self-inside.ensures
           ∙ ap (λ xs. length (settled xs)) (sym items);
       bytes = bytes_with h e c.self.inside.bytes c.kind_bytes.result c.saturating_add-self-inside.result c.self.invariant.bytes c.kind_bytes.ensures c.saturating_add-self-inside.ensures

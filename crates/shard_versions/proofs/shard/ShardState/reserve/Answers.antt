@@ -1,11 +1,11 @@
-use Rattle.std.proofs.Common.{rules, ◌≡◌, ◌+◌, ◌-◌, ◌^◌, ◌<◌, ◌≤◌, ℕ, true, false, List, [], length, map, min, sym, ap, subst, ◌∙◌, arith}
-use Rattle.shard_versions.specs.Histories.{settled, slots, last_version}
+use Rattle.std.proofs.Common.{◌≡◌, ◌-◌, ◌^◌, true, false, [], length, min, sym, ap, subst, ◌∙◌, arith}
+use Rattle.shard_versions.specs.Histories.{settled, slots}
 use Rattle.shard_versions.specs.Sizes.{entries_bytes}
 use Rattle.shard_versions.specs.Logs.{AreMade}
 use Rattle.shard_versions.specs.Indexes.{nexts_of, greatests_after}
 use Rattle.shard_versions.specs.Trees.{Finds}
+use Rattle.shard_versions.specs.Stored.{AreLatest}
 use Rattle.shard_versions.proofs.FindLemmas.{finds-same}
-use Rattle.shard_versions.specs.declared.entry.Entry.{Entry}
 use Rattle.shard_versions.proofs.LogLemmas.{last-few}
 use Rattle.shard_versions.proofs.shard.ShardState.reserve.Goals as goal
 
@@ -34,6 +34,7 @@ invariant_of-self-2 c =
       sends = subst (Finds true c.reserve-5.new.self) (sym same)
           (finds-same true c.self.inside.sends c.reserve-5.new.self c.self.inside.log.entries c.self.invariant.sends
           c.in_ok-reserve-5.ensures.nodes c.in_ok-reserve-5.ensures.roots);
+      current = λ all. subst (λ h. AreLatest (slots h)) (sym same) (c.self.invariant.current all);
       closed = c.self.invariant.closed ∙ ap (λ h. length (settled h)) (sym same);
       bytes = c.self.invariant.bytes ∙ ap (λ h. min (entries_bytes h) (2 ^ 64 - 1)) (sym same);
       ready = subst (λ n. AreMade n c.in_ok-self-inside.field-0.items) c.last.ensures c.in_ok-self-inside.ensures.made;

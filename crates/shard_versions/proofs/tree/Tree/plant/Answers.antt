@@ -1,4 +1,4 @@
-use Rattle.std.proofs.Common.{rules, sym, ◌∙◌, ap, cond, eqb, ◌+◌, arith}
+use Rattle.std.proofs.Common.{sym, ◌∙◌, ap, cond, eqb, ◌+◌}
 use Rattle.shard_versions.specs.Trees.{first_of}
 use Rattle.shard_versions.proofs.TreeLemmas.{on_ok-tested, first-planted}
 use Rattle.shard_versions.proofs.tree.Tree.plant.Goals as goal
