@@ -34,8 +34,8 @@ struct Found<'a> {
 
 /// What a topic gives over a cut, which holds each shard of its collection: the current documents
 /// above the checkpoint that its query takes, by version and then by shard, each cut to `fl`, its
-/// id and its version. The checkpoint has a number for each shard. Each document of the cut is
-/// looked at once; what is given takes some n log n comparisons, and is copied once.
+/// id and its version. The checkpoint has a number for each shard. Each document above it is looked
+/// at once; what is given takes some n log n comparisons, and is copied once.
 pub fn topic_batch(
     alloc: Global,
     topic: &Expr,
@@ -85,7 +85,7 @@ fn is_new(q: &Query, low: u64, version: u64, document: &Tuple) -> bool
     low < version && q.matches(document)
 }
 
-// Adds what a topic gives of a shard.
+// Adds what a topic gives of a shard, whose documents up to the number aren't looked at.
 fn add_new<'a>(
     found: &mut Vec<Found<'a>>,
     q: &Query,
@@ -96,7 +96,7 @@ fn add_new<'a>(
     ensures { OnOk result (map item_found found.new.items ≡ map item_found found.old.items
         ++ new_items q.now.clauses low shard snapshot.now.documents) }
 {
-    for k in 0..snapshot.count() {
+    for k in snapshot.first_above(low)..snapshot.count() {
         let version = snapshot.version(k);
         let document = snapshot.document(k);
         if is_new(q, low, version, document) {

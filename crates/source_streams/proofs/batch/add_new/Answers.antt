@@ -1,11 +1,18 @@
-use Rattle.std.proofs.Common.{ℕ, ◌<◌, length, map, sym, ◌∙◌, arith}
+use Rattle.std.proofs.Common.{ℕ, ◌<◌, ◌++◌, List, length, map, ap, sym, ◌∙◌, arith}
 use Rattle.std.proofs.lemmas.List.{map-append}
 use Rattle.tuple_values.specs.Document.{Doc}
 use Rattle.source_streams.specs.Batches.{is_new, item_of}
 use Rattle.source_streams.specs.Founds.{item_found}
-use Rattle.source_streams.proofs.BatchLemmas.{made_more, made_less, pair_is}
+use Rattle.source_streams.specs.declared.batch.TopicItem.{TopicItem}
+use Rattle.source_streams.proofs.BatchLemmas.{made_more, made_less, new_from, pair_is}
 use Rattle.source_streams.proofs.batch.add_new.Goals as goal
 use Rattle.source_streams.proofs.batch.add_new.Goals.{then-is_new+in_ok-push, else-is_new}
+
+pub loop-k-init : goal.loop-k-init
+loop-k-init c =
+    ap (λ (r : List TopicItem). map item_found c.args.found.now.items ++ r)
+    (new_from c.args.q.now.clauses c.args.low c.args.shard c.first_above-k.result
+    c.args.snapshot.now.documents c.first_above-k.ensures.above)
 
 pub loop-k-preserved : goal.loop-k-preserved
 loop-k-preserved c =
