@@ -12,6 +12,7 @@ pub mod PlainLemmas
 pub mod PlainLookLemmas
 pub mod PlainBookLemmas
 pub mod PlainOwnLemmas
+pub mod PlainLawLemmas
 pub mod WriteLemmas
 pub mod MayLemmas
 pub mod SendLemmas

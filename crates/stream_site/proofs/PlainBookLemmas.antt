@@ -14,6 +14,7 @@ use Rattle.exchange_rules.specs.declared.log_entry.LogEntry.TheVariants as logge
 use Rattle.exchange_rules.specs.Courses.{appended}
 use Rattle.exchange_rules.specs.Following.{Writer}
 use Rattle.exchange_rules.specs.Primitives.{made}
+use Rattle.site_laws.specs.Laws.{with_more}
 use Rattle.stream_site.specs.Plains.{Plain, logs_in, writer_of, layout_of}
 use Rattle.stream_site.proofs.PlainLemmas.{histories_of}
 
@@ -49,6 +50,17 @@ set_last : (hs : List History) (b d : Log)
 set_last [] b d = refl
 set_last (h ∷ hs) b d = ap (λ x. log_of h ∷ x) (set_last hs b d)
 
+-- the cells after an entry of the book
+pub entry_there : (hs : List History) (b : Book) (e : BookEntry) (n : ℕ) → n ≡ length hs
+    → logs_in hs (b ++ e ∷ []) ≡ with_more (logs_in hs b) n (logged.Book e ∷ [])
+entry_there hs b e n at =
+    let logs = logs_in hs b in
+    let all = log_of_book (b ++ e ∷ []) in
+    let more : all ≡ get_or logs n [] ++ logged.Book e ∷ [] =
+    map-append _ b (e ∷ []) ∙ ap (λ x. x ++ logged.Book e ∷ []) (sym (book_at hs b n at)) in
+    sym (set_last hs (log_of_book b) all)
+    ∙ (ap (λ x. set logs x all) (sym at) ∙ ap (set logs n) more)
+
 -- an entry of the one writer, signed
 signed_one : (e : BookEntry) → author_of (logged.Book e) ≡ 1
     → signed 1 (payload_of e ∷ []) ≡ logged.Book e ∷ []
@@ -64,15 +76,10 @@ pub plain_appended : (p : Plain) (b : Book) (e : BookEntry) (n from : ℕ) (own 
 plain_appended p b e n from own at by after f o =
     let w = writer_of p in
     let payloads = payload_of e ∷ [] in
-    let here = book_at p.shards p.book n at in
-    let more : log_of_book b ≡ get_or w.seen n [] ++ signed 1 payloads =
-    ap log_of_book after
-    ∙ (map-append _ p.book (e ∷ [])
-    ∙ (ap (λ x. log_of_book p.book ++ x) (sym (signed_one e by))
-    ∙ ap (λ x. x ++ signed 1 payloads) (sym here))) in
     let seen : logs_in p.shards b ≡ appended 1 w.seen n payloads =
-    sym (set_last p.shards (log_of_book p.book) (log_of_book b))
-    ∙ (ap (λ x. set w.seen x (log_of_book b)) (sym at) ∙ ap (set w.seen n) more) in
+    ap (logs_in p.shards) after
+    ∙ (entry_there p.shards p.book e n at
+    ∙ ap (λ x. set w.seen n (get_or w.seen n [] ++ x)) (sym (signed_one e by))) in
     let begun : from ≡ length (get_or w.seen n []) = f ∙ book_long p.shards p.book n at in
     let build : List Log → List OwnMark → Writer =
     λ s a. record { me = 1; seen = s; marks = p.marks; own = a; looks = p.looks } in

@@ -20,6 +20,7 @@ use Rattle.exchange_rules.specs.Primitives.{made}
 use Rattle.exchange_rules.specs.Rows.{HasCell, shown_of}
 use Rattle.exchange_rules.specs.Steps.{AreBy, is_full, kinds_of}
 use Rattle.exchange_rules.proofs.StepLemmas.{history_in-log_of, log_of-signed, entries_bytes-kinds}
+use Rattle.site_laws.specs.Laws.{with_more}
 use Rattle.stream_site.specs.Plains.{Plain, logs_in, writer_of, layout_of}
 
 -- the histories of shards
@@ -48,25 +49,45 @@ history_at p shards c x e lt is =
     ap history_in (seen_at p shards c x e lt is) ∙ history_in-log_of x.entries
 
 -- the cells after a step
-seen_after : (hs : List History) (b : Book) (c : ℕ) (h : History) (step : List Entry)
-    → c < length hs → h ≡ get_or hs c [] → AreBy 1 step
-    → logs_in (set hs c (h ++ step)) b
-    ≡ appended 1 (logs_in hs b) c (map write (kinds_of step))
-seen_after hs b c h step lt e by =
+pub step_there : (hs : List History) (b : Book) (c : ℕ) (h : History) (step : List Entry)
+    → c < length hs → h ≡ get_or hs c []
+    → logs_in (set hs c (h ++ step)) b ≡ with_more (logs_in hs b) c (log_of step)
+step_there hs b c h step lt e =
     let logs = map log_of hs in
     let last = log_of_book b ∷ [] in
     let long : c < length logs = simp length-map lt in
     let here : get_or (logs ++ last) c [] ≡ log_of h =
     get_or_append_left logs last [] c long
     ∙ (get_or-map log_of hs c [] [] lt ∙ ap log_of (sym e)) in
-    let more : log_of (h ++ step)
-    ≡ get_or (logs ++ last) c [] ++ signed 1 (map write (kinds_of step)) =
-    map-append _ h step
-    ∙ (ap (λ x. log_of h ++ x) (log_of-signed 1 step by)
-    ∙ ap (λ x. x ++ signed 1 (map write (kinds_of step))) (sym here)) in
+    let more : log_of (h ++ step) ≡ get_or (logs ++ last) c [] ++ log_of step =
+    map-append _ h step ∙ ap (λ x. x ++ log_of step) (sym here) in
     ap (λ x. x ++ last) (map-set log_of hs c (h ++ step))
     ∙ (sym (set-append_left logs last c (log_of (h ++ step)) long)
     ∙ ap (set (logs ++ last) c) more)
+
+-- the same of a step of the one writer
+seen_after : (hs : List History) (b : Book) (c : ℕ) (h : History) (step : List Entry)
+    → c < length hs → h ≡ get_or hs c [] → AreBy 1 step
+    → logs_in (set hs c (h ++ step)) b
+    ≡ appended 1 (logs_in hs b) c (map write (kinds_of step))
+seen_after hs b c h step lt e by =
+    let logs = logs_in hs b in
+    step_there hs b c h step lt e
+    ∙ ap (λ x. set logs c (get_or logs c [] ++ x)) (log_of-signed 1 step by)
+
+-- a shard's entries are its history
+pub entries_at : (shards : List Shard) (c : ℕ) (x : Shard) → c < length shards
+    → x ≡ get_or shards c x → x.entries ≡ get_or (histories_of shards) c []
+entries_at shards c x lt is =
+    sym (get_or-map (λ (s : Shard). s.entries) shards c x [] lt
+    ∙ ap (λ (s : Shard). s.entries) (sym is))
+
+-- the histories where a shard has a step more
+pub grown_histories : (shards : List Shard) (c : ℕ) (x y : Shard) (step : List Entry)
+    → y.entries ≡ x.entries ++ step
+    → histories_of (set shards c y) ≡ set (histories_of shards) c (x.entries ++ step)
+grown_histories shards c x y step after =
+    map-set (λ (s : Shard). s.entries) shards c y ∙ ap (set (histories_of shards) c) after
 
 -- a step of a writer that is alone
 pub plain_made : (p : Plain) (shards : List Shard) (c : ℕ) (x y : Shard) (step : List Entry)
@@ -81,11 +102,8 @@ plain_made p shards c x y step from count own e lt is by after f n o =
     let hs = histories_of shards in
     let payloads = map write (kinds_of step) in
     let long : c < length hs = simp length-map lt in
-    let old : x.entries ≡ get_or hs c [] =
-    sym (get_or-map (λ (s : Shard). s.entries) shards c x [] lt
-    ∙ ap (λ (s : Shard). s.entries) (sym is)) in
-    let new : histories_of (set shards c y) ≡ set hs c (x.entries ++ step) =
-    map-set (λ (s : Shard). s.entries) shards c y ∙ ap (set hs c) after in
+    let old = entries_at shards c x lt is in
+    let new = grown_histories shards c x y step after in
     let seen : logs_in (histories_of (set shards c y)) p.book
     ≡ appended 1 (logs_in p.shards p.book) c payloads =
     ap (λ z. logs_in z p.book) new
@@ -111,15 +129,19 @@ plain_made p shards c x y step from count own e lt is by after f n o =
     } ∷ []) all) in
     ap (λ s. build s own) seen ∙ ap (build (appended 1 w.seen c payloads)) recorded
 
+-- the histories where a shard stays as it was
+pub kept_histories : (shards : List Shard) (c : ℕ) (x y : Shard) → x ≡ get_or shards c x
+    → y.entries ≡ x.entries → histories_of (set shards c y) ≡ histories_of shards
+kept_histories shards c x y is same =
+    map-set_same (λ (s : Shard). s.entries) shards c y x
+    (same ∙ ap (λ (s : Shard). s.entries) is)
+
 -- a shard that stays as it was
 pub plain_kept : (p : Plain) (shards : List Shard) (c : ℕ) (x y : Shard)
     → histories_of shards ≡ p.shards → x ≡ get_or shards c x → y.entries ≡ x.entries
     → writer_of (record p { shards = histories_of (set shards c y) }) ≡ writer_of p
 plain_kept p shards c x y e is same =
-    let kept : histories_of (set shards c y) ≡ histories_of shards =
-    map-set_same (λ (s : Shard). s.entries) shards c y x
-    (same ∙ ap (λ (s : Shard). s.entries) is) in
-    ap (λ z. writer_of (record p { shards = z })) (kept ∙ e)
+    ap (λ z. writer_of (record p { shards = z })) (kept_histories shards c x y is same ∙ e)
 
 -- a shard's limit is the site's
 pub limit_at : (limit : ℕ) (shards : List Shard) (c : ℕ) (x : Shard)

@@ -8,7 +8,8 @@ use Rattle.once_core.specs.Law.{IsFitCell}
 use Rattle.exchange_rules.specs.Cells.{author_of}
 use Rattle.exchange_rules.specs.Steps.{AreBy}
 use Rattle.exchange_rules.specs.declared.log_entry.LogEntry.TheVariants as logged
-use Rattle.stream_site.specs.Plains.{Plain}
+use Rattle.site_laws.specs.SiteCells.{IsLawful}
+use Rattle.stream_site.specs.Plains.{Plain, logs_in}
 use Rattle.stream_site.specs.declared.plain.PlainSite.TheInside.{Inside}
 
 -- what is seen of the fields
@@ -25,7 +26,7 @@ plain_in s = record {
 
 -- there is a shard for each cell but the book's, with the site's limit and the one writer's entries
 -- alone, which belong there; the book's entries are the one writer's, and its topics are on these
--- collections; and there is a count of looks for each cell
+-- collections; there is a count of looks for each cell; and the core's law holds of all histories
 pub record IsSite (s : Inside) : Type 0 where
   pub counted : length s.shards.items ≡ cells_in s.names
   pub few : cells_in s.names < 2 ^ 32
@@ -36,3 +37,5 @@ pub record IsSite (s : Inside) : Type 0 where
   pub looks : length s.looks.items ≡ length s.shards.items + 1
   pub book_own : AllByRecursion (λ e. author_of (logged.Book e) ≡ 1) s.book.entries
   pub topics : AllByRecursion (IsFitEntry s.names) s.book.entries
+  pub lawful : IsLawful s.names
+      (logs_in (map (λ (x : Shard). x.entries) s.shards.items) s.book.entries)

@@ -14,7 +14,9 @@ ghost use Rattle.exchange_rules.specs.Primitives.{made};
 ghost use Rattle.exchange_rules.specs.Rows.{HasCell, commit_course, cut_course, index_course};
 ghost use Rattle.exchange_rules.specs.Steps.{AreBy, AreStorableWrites, is_full, kinds_of};
 ghost use Rattle.site_laws.specs.Duties.{MaySend};
-ghost use Rattle.site_laws.specs.SiteCells.{histories_in};
+ghost use Rattle.site_laws.specs.Sealings.{MayAppend};
+ghost use Rattle.site_laws.specs.SiteCells.{histories_in, IsLawful};
+ghost use Rattle.site_laws.specs.declared.sealing.Sealing.TheVariants as sealing;
 ghost use Rattle.stream_site.specs.Plains.{empty_site, layout_of, logs_in, unrecorded, writer_of};
 
 use crate::cut::take_cut_over;
@@ -110,10 +112,12 @@ impl PlainSite {
         })
     }
 
-    /// The collections.
+    /// The collections. The core's law holds of the site's histories, so by `delivery_holds` each
+    /// topic delivers once.
     pub fn names(&self) -> &Names
         ensures names { result.now ≡ self.now.names }
         ensures alone { (had : List ℕ) → IsAlone 1 had (writer_of self.now).seen }
+        ensures lawful { IsLawful self.now.names (writer_of self.now).seen }
     {
         &self.names
     }
@@ -257,6 +261,8 @@ impl PlainSite {
         requires in_range { HasCell (layout_of self.old) (writer_of self.old) cell }
         requires own { AreBy 1 step }
         requires fit { IsFitCell self.old.names cell step }
+        requires allowed { MayAppend self.old.names 1 (writer_of self.old).seen cell
+            (sealing.Shard step) }
         ensures ok { OnOk result
             (writer_of self.new ≡ made (writer_of self.old) cell (map write (kinds_of step))) }
         ensures err { OnErr result (writer_of self.new ≡ writer_of self.old) }

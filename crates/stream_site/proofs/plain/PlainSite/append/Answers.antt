@@ -10,10 +10,13 @@ use Rattle.exchange_rules.specs.Cells.{write}
 use Rattle.exchange_rules.specs.Following.{Writer}
 use Rattle.exchange_rules.specs.Primitives.{made}
 use Rattle.exchange_rules.specs.Steps.{AreBy, kinds_of}
+use Rattle.site_laws.specs.Sealings.{MayAppend}
+use Rattle.site_laws.specs.declared.sealing.Sealing.TheVariants as sealing
 use Rattle.stream_site.specs.Plains.{Plain, writer_of}
 use Rattle.stream_site.specs.Sites.{plain_in}
 use Rattle.stream_site.proofs.FitLemmas.{each-set, same-fit, step-fit}
 use Rattle.stream_site.proofs.PlainLemmas.{histories_of, in_shards, limit_at, plain_kept, plain_made, full_at}
+use Rattle.stream_site.proofs.PlainLawLemmas.{kept_lawful, step_lawful}
 use Rattle.stream_site.proofs.TestLemmas.{iff_join, iff_never, ok_is_no_err, memory_is_no_full}
 use Rattle.stream_site.proofs.plain.PlainSite.append.Goals as goal
 
@@ -50,6 +53,8 @@ invariant_of-self-in-Err-reserve c =
       looks = old.looks ∙ ap (λ n. n + 1) (sym (length-set shards cell y));
       book_own = old.book_own;
       topics = old.topics;
+      lawful = kept_lawful c.self.inside.names shards c.self.inside.book.entries old.lawful cell x
+          y is c.in-Ok.ensures.entries;
     }
 
 pub invariant_of-self-2 : goal.invariant_of-self-2
@@ -80,6 +85,10 @@ invariant_of-self-2 c =
       looks = old.looks ∙ ap (λ n. n + 1) (sym (length-set shards cell y));
       book_own = old.book_own;
       topics = old.topics;
+      lawful = step_lawful c.self.inside.names shards c.self.inside.book.entries old.lawful cell x
+          y c.args.step lt is after
+          (subst (λ (p : Plain). MayAppend p.names 1 (writer_of p).seen cell
+          (sealing.Shard c.args.step)) (sym c.self.view_is) c.requires.allowed);
     }
 
 pub returns-in-Err-clause-err : goal.returns-in-Err-clause-err

@@ -8,7 +8,12 @@ use Rattle.exchange_rules.specs.declared.log_entry.LogEntry.TheVariants as logge
 use Rattle.stream_site.proofs.EmptyLemmas.{empty_long, empty_own}
 use Rattle.stream_site.proofs.FitLemmas.{empty-fit}
 use Rattle.once_core.specs.Law.{IsFitCell}
-use Rattle.std.specs.Prelude.{get_or, []}
+use Rattle.std.specs.Prelude.{get_or, [], replicate}
+use Rattle.topic_book.specs.Books.{Book}
+use Rattle.site_laws.specs.SiteCells.{IsLawful}
+use Rattle.stream_site.specs.Plains.{logs_in}
+use Rattle.stream_site.proofs.PlainLemmas.{histories_of}
+use Rattle.stream_site.proofs.PlainLawLemmas.{new_lawful}
 use Rattle.stream_site.proofs.plain.PlainSite.start.Goals as goal
 
 pub invariant_of-result : goal.invariant_of-result
@@ -30,4 +35,8 @@ invariant_of-result c =
       book_own = subst (AllByRecursion (λ e. author_of (logged.Book e) ≡ 1))
           (sym c.empty.ensures) tt;
       topics = subst (AllByRecursion (IsFitEntry c.args.names)) (sym c.empty.ensures) tt;
+      lawful = subst (λ (b : Book). IsLawful c.args.names (logs_in
+          (histories_of c.in_ok-shards.shards.items) b)) (sym c.empty.ensures)
+          (subst (λ hs. IsLawful c.args.names (logs_in hs [])) (sym (empty.entries
+          ∙ ap (λ n. replicate (cells_in n) []) c.as_slice.ensures)) (new_lawful c.args.names));
     }

@@ -1,13 +1,18 @@
 use Rattle.std.proofs.Common.{◌≡◌, ◌∷◌, ◌++◌, [], length, sym, ap, ◌∙◌, subst, refl, arith}
 use Rattle.std.proofs.lemmas.List.{length-map}
 use Rattle.topic_book.specs.Cells.{cells_in}
-use Rattle.topic_book.specs.Fitness.{MayFollow}
+use Rattle.std.specs.List.{AllByRecursion}
+use Rattle.shard_versions.proofs.ListLemmas.{each_append}
+use Rattle.topic_book.specs.Fitness.{IsFitEntry, MayFollow}
 use Rattle.topic_book.specs.States.{IsCauseOf, IsOpenTo}
-use Rattle.exchange_rules.specs.Cells.{payload_of}
+use Rattle.exchange_rules.specs.Cells.{author_of, payload_of}
+use Rattle.exchange_rules.specs.declared.log_entry.LogEntry.TheVariants as logged
 use Rattle.exchange_rules.specs.Primitives.{made}
+use Rattle.site_laws.specs.Duties.{MayAppendEntry}
 use Rattle.stream_site.specs.Plains.{Plain, writer_of}
 use Rattle.stream_site.specs.Sites.{plain_in}
 use Rattle.stream_site.proofs.PlainLemmas.{histories_of}
+use Rattle.stream_site.proofs.PlainLawLemmas.{entry_lawful}
 use Rattle.stream_site.proofs.PlainBookLemmas.{plain_book, plain_appended}
 use Rattle.stream_site.proofs.TopicLemmas.{plain_appendable}
 use Rattle.stream_site.proofs.plain.PlainSiteTurns.append_entry.Goals as goal
@@ -31,6 +36,33 @@ append-requires-clause-follows c =
     (plain_appendable c.self.inside.shards.items (plain_in c.self.inside) c.args.self.now
     c.self.view_is refl c.self.invariant.counted c.self.invariant.topics c.args.entry
     c.requires.allowed).follows
+
+pub invariant_of-self-2 : goal.invariant_of-self-2
+invariant_of-self-2 c =
+    let old = c.self.invariant in
+    let names = c.self.inside.names in
+    let shards = c.self.inside.shards.items in
+    let book = c.self.inside.book.entries in
+    let appendable = plain_appendable shards (plain_in c.self.inside) c.args.self.now c.self.view_is
+    refl old.counted old.topics c.args.entry c.requires.allowed in
+    let after = c.append.ensures ∙ ap (λ h. h ++ c.args.entry ∷ []) c.in-Ok.ensures.entries in
+    record {
+      counted = old.counted;
+      few = old.few;
+      limits = old.limits;
+      own = old.own;
+      fit = old.fit;
+      looks = old.looks;
+      book_own = subst (AllByRecursion (λ e. author_of (logged.Book e) ≡ 1)) (sym after)
+          (each_append (λ e. author_of (logged.Book e) ≡ 1) book (c.args.entry ∷ []) old.book_own
+          (appendable.own, tt));
+      topics = subst (AllByRecursion (IsFitEntry names)) (sym after)
+          (each_append (IsFitEntry names) book (c.args.entry ∷ []) old.topics (appendable.fit, tt));
+      lawful = entry_lawful names shards book old.lawful c.args.entry c.append.new.self.entries
+          old.counted after
+          (subst (λ (p : Plain). MayAppendEntry p.names 1 (writer_of p).seen c.args.entry)
+          (sym c.self.view_is) c.requires.allowed);
+    }
 
 pub returns-clause-opened : goal.returns-clause-opened
 returns-clause-opened c =

@@ -62,6 +62,18 @@ append-requires-clause-fit c =
     c.in-Ok-close.ensures in
     done.fit
 
+pub append-requires-clause-allowed : goal.append-requires-clause-allowed
+append-requires-clause-allowed c =
+    let p = c.args.self.now in
+    let counted = c.self.invariant.counted ∙ ap (λ (x : Plain). cells_in x.names) c.self.view_is in
+    let kept = kept_here p c.self.inside.shards.items c.args.cell c.index.result.now c.args.step
+    c.in-Ok.kept (ap (λ (x : Plain). x.shards) c.self.view_is) counted c.requires.in_range
+    c.index.ensures c.requires.allowed c.in-Ok.ensures in
+    let lt : 0 < length c.in-Ok.kept = omega (arith, c.len-count.ensures, c.if-count-eq0.false) in
+    let done = done_of p c.args.cell c.args.step c.in-Ok.kept c.in-Ok-close.whole kept lt
+    c.in-Ok-close.ensures in
+    done.allowed
+
 pub returns-in-Ok-append-clause-ok : goal.returns-in-Ok-append-clause-ok
 returns-in-Ok-append-clause-ok c =
     let p = c.args.self.now in
