@@ -22,7 +22,7 @@ use Rattle.update_sink.specs.Promises.{IsKept, IsUnstored}
 use Rattle.update_sink.specs.Runs.{IsRun}
 use Rattle.update_sink.specs.Sends.{IsToldOf}
 use Rattle.update_sink.specs.Topics.{Sink, asked_of, run_at}
-use Rattle.update_sink.proofs.PromiseLemmas.{HasReached, begin-unstored, run-reached, source-unstored, topic-above, unstored-only, unstored-then}
+use Rattle.update_sink.proofs.PromiseLemmas.{HasReached, begin-unstored, run-reached, source-unstored, unstored-only, unstored-then}
 
 -- what follows from what holds of an error holds of it
 pub on-err : {A E : Type 0} (P Q : Type 0) (r : Result A E) → (P → Q) → OnErr r P → OnErr r Q
@@ -102,7 +102,6 @@ run-kept l there p dest size t before cut items tops new (Ok run) here is given 
     let b1 = subst (λ (x : Layout). promised.HasReached x.names new.seen t.key tops) here b in
     let b2 = subst (λ (x : Asked). promised.HasReached l.names new.seen x.key tops) is b1 in
     let kept : IsKept l new s (run_at before cut tops told.sunk) = record {
-      above = topic-above p cut before;
       there = a3;
       tops = stored;
       reached = b2;

@@ -17,4 +17,6 @@ pub mod SendsLemmas
 pub mod RunLemmas
 pub mod MostLemmas
 pub mod PromiseLemmas
+pub mod EachLemmas
+pub mod DeliveredLemmas
 pub mod KeptLemmas

@@ -1,5 +1,5 @@
 -- What the run of a topic promises over what its writer has seen, and what it appends (own).
-use Rattle.std.specs.Prelude.{ℕ, ◌≡◌, ◌<◌, ◌≤◌, Bool, true, false, not, bytes_eq, count_by, List, ◌++◌, slice_index, Result, Ok, Err}
+use Rattle.std.specs.Prelude.{ℕ, ◌≡◌, ◌<◌, ◌≤◌, Bool, true, false, not, bytes_eq, count_by, Contains, List, ◌++◌, slice_index, Result, Ok, Err}
 use Rattle.std.specs.List.{AllByRecursion}
 use Rattle.tuple_values.specs.Document.{ByteList}
 use Rattle.tuple_values.specs.declared.names.NameShards.{NameShards}
@@ -12,6 +12,7 @@ use Rattle.topic_book.specs.declared.topic.TopicKey.{TopicKey}
 use Rattle.exchange_rules.specs.Accesses.{at_owns}
 use Rattle.exchange_rules.specs.Calls.{is_write}
 use Rattle.exchange_rules.specs.Cells.{Log}
+use Rattle.exchange_rules.specs.Deliveries.{sent_kind}
 use Rattle.exchange_rules.specs.Following.{Writer}
 use Rattle.exchange_rules.specs.Rows.{Layout}
 use Rattle.exchange_rules.specs.Topics.{tops_of}
@@ -23,7 +24,7 @@ use Rattle.site_laws.specs.SiteCells.{histories_in}
 use Rattle.source_streams.specs.Batches.{topic_items}
 use Rattle.source_streams.specs.declared.batch.TopicItem.{TopicItem}
 use Rattle.update_sink.specs.Given.{AreThereNow}
-use Rattle.update_sink.specs.Topics.{Sink, key_of}
+use Rattle.update_sink.specs.Topics.{Sink, key_of, sent_item}
 
 -- whether the entry is a Bind
 abbrev pub is_bind : LogEntry → Bool
@@ -92,11 +93,39 @@ abbrev pub HasReached : List NameShards → List Log → TopicKey → List ℕ �
 HasReached names seen key upto =
     (shard : ℕ) → slice_index upto shard ≤ checkpoint key (histories_in names seen).book shard
 
--- what a run promises: all that the topic gives of the cut that it read is above the checkpoint that
--- it read, and stands in the destination in its version or a later one; what it stored are the tops
--- of the cut, and the topic's checkpoint has reached them
+-- the kind is the delivery of one of these items, which is above the checkpoint
+pub record IsDelivery (src : ByteList) (before : List ℕ) (items : List TopicItem) (k : Kind)
+    : Type 0 where
+  pub item : TopicItem
+  pub given : Contains items item
+  pub above : IsAbove before item
+  pub is : k ≡ sent_kind src (sent_item src item)
+
+-- the kind is such a delivery, or a Mark
+abbrev pub IsRunKind : ByteList → List ℕ → List TopicItem → Kind → Type 0
+IsRunKind src before items (Put document) = ⊥
+IsRunKind src before items (Del id) = ⊥
+IsRunKind src before items (Sent from version document) =
+    IsDelivery src before items (Sent from version document)
+IsRunKind src before items Mark = Unit {0}
+
+-- so is the entry, unless it is one of the book
+abbrev pub IsRunEntry : ByteList → List ℕ → List TopicItem → LogEntry → Type 0
+IsRunEntry src before items (logged.Shard e) = IsRunKind src before items e.kind
+IsRunEntry src before items (logged.Book e) = Unit {0}
+
+-- from old to new the writer delivered only what the topic gives of the cut that it read, above the
+-- checkpoint that it read: each entry that it appended at a shard is such a delivery, from the
+-- topic's source, in the item's version and with its document, or a Mark
+pub record HasDelivered (old new : Writer) (s : Sink) (run : TopicRun) : Type 0 where
+  pub gained : Gained old new
+  pub only : AllByRecursion (IsRunEntry s.topic.collection run.before
+      (topic_items s.topic run.cut run.before)) (appended old new gained)
+
+-- what a run promises: all that the topic gives of the cut that it read, above the checkpoint that
+-- it read, stands in the destination in its version or a later one; what it stored are the tops of
+-- the cut, and the topic's checkpoint has reached them
 pub record IsKept (l : Layout) (new : Writer) (s : Sink) (run : TopicRun) : Type 0 where
-  pub above : AllByRecursion (IsAbove run.before) (topic_items s.topic run.cut run.before)
   pub there : AreThereNow l.names new.seen s.dest s.topic.collection
       (topic_items s.topic run.cut run.before)
   pub tops : run.stored ≡ tops_of run.cut

@@ -9,7 +9,7 @@ ghost use Rattle.exchange_rules.specs.Batches.{none_sunk};
 ghost use Rattle.exchange_rules.specs.Topics.{run_course, stopped_by};
 ghost use Rattle.update_sink.specs.Asks.{asked_by};
 ghost use Rattle.update_sink.specs.Given.{AreGiven, AreThereNow};
-ghost use Rattle.update_sink.specs.Promises.{HasReached, HasStood, IsKept, IsRunAlone, IsUnstored, stand_of};
+ghost use Rattle.update_sink.specs.Promises.{HasDelivered, HasReached, HasStood, IsKept, IsRunAlone, IsUnstored, stand_of};
 ghost use Rattle.update_sink.specs.Runs.{IsRun};
 ghost use Rattle.update_sink.specs.Sends.{IsToldOf, MayFinish, finish_course};
 ghost use Rattle.update_sink.specs.Topics.{asked_of, batches_over, key_of, run_at, run_of, sink_in_tree, sink_of, topic_in_tree, topic_of, IsSinkThere, IsThere};
@@ -229,9 +229,12 @@ pub fn run_topic<T: Turns, G: Gate>(
         (sink_of (tree_of checked.now)).dest (batches_over (sink_of (tree_of checked.now))) run_of)
         result }
 
-    // What the topic gives of the cut is above the checkpoint that was read, and stands in the
-    // destination in its version or a later one; the topic's checkpoint has reached the cut's tops.
+    // What the topic gives of the cut, above the checkpoint that was read, stands in the destination
+    // in its version or a later one; the topic's checkpoint has reached the cut's tops. Nothing else
+    // was delivered.
     ensures kept { IfOk result (IsKept (T.layout site.old) (T.writer site.new)
+        (sink_of (tree_of checked.now))) }
+    ensures delivered { IfOk result (HasDelivered (T.writer site.old) (T.writer site.new)
         (sink_of (tree_of checked.now))) }
 
     // The writer appended at most one Bind and one Store of the topic, and else documents of its

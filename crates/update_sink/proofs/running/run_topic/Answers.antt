@@ -5,9 +5,10 @@ use Rattle.expr_types.specs.declared.expr.Expr.{Expr}
 use Rattle.expr_check.specs.Views.{tree_of}
 use Rattle.exchange_rules.specs.Following.{Writer}
 use Rattle.exchange_rules.specs.Topics.{run_course}
-use Rattle.update_sink.specs.Promises.{HasStood, IsKept, IsRunAlone, IsUnstored, stand_of}
+use Rattle.update_sink.specs.Promises.{HasDelivered, HasStood, IsKept, IsRunAlone, IsUnstored, stand_of}
 use Rattle.update_sink.specs.Runs.{IsRun}
 use Rattle.update_sink.specs.Topics.{asked_of, key_of, batches_over, run_of, sink_of}
+use Rattle.update_sink.proofs.DeliveredLemmas.{if-delivered}
 use Rattle.update_sink.proofs.PromiseLemmas.{run-alone, run-stood}
 use Rattle.update_sink.proofs.running.run_topic.Goals as goal
 
@@ -67,3 +68,17 @@ returns-clause-stood g c =
     c.expr.ensures.value c.run_sink-result.ensures.course in
     subst (λ (x : Writer). HasStood w x (stand_of r)) (sym c.leave.ensures.writer)
     (run-stood w mid l (asked_of s.topic (Some s.dest)) s.dest (batches_over s) r course)
+
+pub returns-clause-delivered : goal.returns-clause-delivered
+returns-clause-delivered g c =
+    let w = g.T.Turns.writer c.args.site.now in
+    let mid = g.T.Turns.writer c.run_sink-result.new.site in
+    let l = g.T.Turns.layout c.args.site.now in
+    let s = sink_of (tree_of c.args.checked.now) in
+    let r = c.run_sink-result.result in
+    let course = subst (λ (e : Expr). IsRun w mid (run_course l
+    (asked_of (sink_of (expr_tree e)).topic (Some (sink_of (expr_tree e)).dest))
+    (sink_of (expr_tree e)).dest (batches_over (sink_of (expr_tree e))) run_of) r)
+    c.expr.ensures.value c.run_sink-result.ensures.course in
+    subst (λ (x : Writer). IfOk r (HasDelivered w x s)) (sym c.leave.ensures.writer)
+    (if-delivered w mid l s r course)
