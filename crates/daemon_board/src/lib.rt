@@ -10,6 +10,7 @@ mod daemons;
 mod fault;
 mod finding;
 mod listing;
+mod shared_board;
 
 pub use answers::Answers;
 pub use board::Board;
@@ -17,3 +18,4 @@ pub use claim::Claim;
 pub use daemon::{Daemon, State};
 pub use daemons::Daemons;
 pub use fault::BoardFault;
+pub use shared_board::SharedBoard;
