@@ -1,22 +1,29 @@
 -- What a board says to what it is asked, from what its calls say.
-use Rattle.std.proofs.Common.{◌≡◌, ℕ, ◌++◌, Bool, Option, Some, None, refl, sym, ap, subst, ◌∙◌, inl, inr}
+use Rattle.std.proofs.Common.{◌≡◌, ◌++◌, Bool, Option, Some, None, refl, sym, ap, subst, ◌∙◌}
 use Rattle.std.specs.Prelude.{Result, Ok, Err, IfOk, codes}
 use Rattle.tuple_values.specs.Document.{ByteList}
 use Rattle.tuple_values.specs.declared.memory.Memory.{Memory}
-use Rattle.expr_types.specs.ExprTree.{expr_tree}
-use Rattle.expr_types.specs.declared.expr.Expr.{Expr}
+use Rattle.expr_check.specs.declared.checked.Checked.{Checked}
 use Rattle.daemon_board.specs.Answers.{after_start}
-use Rattle.daemon_board.specs.Calls.{Starts, WhereTold}
+use Rattle.daemon_board.specs.Calls.{Lists, Starts, WhereTold}
 use Rattle.daemon_board.specs.Daemons.{Shown, fresh}
 use Rattle.daemon_board.specs.declared.answers.Answers.{Answers}
 use Rattle.daemon_board.specs.declared.fault.BoardFault.{BoardFault}
 use Rattle.daemon_board.specs.declared.fault.BoardFault.TheVariants.{DaemonTaken, UnknownDaemon, BoardFull, OutOfMemory}
-use Rattle.stream_handler.specs.Asks.{change_ask}
-use Rattle.stream_handler.specs.Boards.{Ask, BoardState, IsAsked, IsStartTold, Makes, Says, after_change, board_state, change_told, lists, nothing, starts}
-use Rattle.stream_handler.specs.Outcomes.{exception}
+use Rattle.stream_handler.specs.Asks.{ask_in, change_ask}
+use Rattle.stream_handler.specs.Boards.{Ask, BoardState, IsAsked, IsListed, IsStartTold, Makes, Says, after_change, board_state, change_told, change_word, lists, op_done}
+use Rattle.stream_handler.specs.Choices.{Chooses, IsAnswerTo, IsChangeChosen, IsChosen, IsPrepared, IsStartAsked, IsStartChosen, IsStartPicked, Picks, picked, replied, start_replies, start_told}
+use Rattle.stream_handler.specs.Outcomes.{exception, reply_of}
+use Rattle.stream_handler.specs.Questions.{Asks, IsActionOf, MayTell, question_ask}
 use Rattle.stream_handler.specs.declared.action.Change.{Change}
 use Rattle.stream_handler.specs.declared.action.Change.TheVariants.{Stop, Start, Kill}
 use Rattle.stream_handler.specs.declared.outcome.Outcome.{Outcome}
+use Rattle.stream_handler.specs.declared.prepared.Prepared.{Prepared}
+use Rattle.stream_handler.specs.declared.prepared.Prepared.TheVariants as prepared
+use Rattle.stream_handler.specs.declared.prepared.StartTold.{StartTold}
+use Rattle.stream_handler.specs.declared.question.Question.{Question}
+use Rattle.stream_handler.specs.declared.question.Question.TheVariants as question
+use Rattle.stream_handler.specs.declared.starting.NewDaemon.{NewDaemon}
 
 -- a board is known by what it tells and by its counts
 board_same : (old new : BoardState) → new.shown ≡ old.shown → new.answers ≡ old.answers → new ≡ old
@@ -30,100 +37,189 @@ told_same : (a b : Option Shown) (P : Shown → Shown → Type 0) → ((x y : Sh
 told_same None b P same w = w
 told_same (Some x) b P same w = w.1 ∙ ap Some (same x w.0 w.2)
 
--- a board that wasn't asked, for want of memory
+-- what is asked is the same by another name
+pub same_ask : (ask known : Ask) (r : Result Question Memory) → ask ≡ known → IfOk r (Asks known)
+    → IfOk r (Asks ask)
+same_ask ask known (Ok q) e asks = asks ∙ sym e
+same_ask ask known (Err memory) e asks = tt
+
+-- an action asks so
+pub action_asks : (read : Result Ask ByteList) (r : Result Question Memory)
+    → IfOk r (IsActionOf read) → IfOk r (Asks (ask_in read))
+action_asks (Ok ask) (Ok q) is = is
+action_asks (Err text) (Ok q) is = ap question_ask is
+action_asks read (Err memory) is = tt
+
+-- a board that was listed is as it was
+pub listed_same : (old new : BoardState) (r : Result Outcome Memory) → IsAsked lists old new r
+    → new ≡ old
+listed_same old new (Ok o) l =
+    board_same old new
+    (told_same old.shown new.shown (Lists {E = Memory} (Ok l.docs)) (λ x y p. p.1) l.told) l.counted
+listed_same old new (Err memory) same = same
+
+-- a list that lacked memory
+pub list_broken : (old new : BoardState) (memory : Memory) (r : Result Outcome Memory)
+    → r ≡ Err memory → WhereTold old.shown new.shown (λ x y. y ≡ x) → new.answers ≡ old.answers
+    → IsAsked lists old new r
+list_broken old new memory r e told counted =
+    let same = board_same old new
+    (told_same old.shown new.shown (λ x y. y ≡ x) (λ x y q. q) told) counted in
+    subst (λ x. IsAsked lists old new x) (sym e) same
+
+-- a list that was made
+pub list_prepared : (old new : BoardState) (o : Outcome) → IsListed old new o
+    → IsPrepared question.List old (prepared.Told o)
+list_prepared old new o l =
+    let same = listed_same old new (Ok o) l in
+    (o, subst (λ x. IsListed old x o) same l, refl)
+
+-- a start that wasn't told for want of memory left the board
+pub untold_same : {A : Type 0} (d : NewDaemon) (checked : Checked) (told : StartTold A)
+    (old new : BoardState) (answer : Result (Unit {0}) BoardFault) (r : Result A Memory)
+    → IsStartPicked told answer r
+    → WhereTold old.shown new.shown
+    (λ b c. Starts d.id (fresh b checked d.interval d.terminate 0) answer b c)
+    → new.answers ≡ after_start answer old.answers → IsStartAsked d checked told old new r
+untold_same d checked told old new answer (Ok x) picks said counted =
+    record { answer = answer; picks = picks; said = said; counted = counted }
+untold_same d checked told old new (Ok u) (Err memory) picks said counted = absurd picks
+untold_same d checked told old new (Err (DaemonTaken taken)) (Err memory) picks said counted =
+    absurd picks
+untold_same d checked told old new (Err UnknownDaemon) (Err memory) picks said counted =
+    board_same old new (told_same old.shown new.shown
+    (λ b c. Starts d.id (fresh b checked d.interval d.terminate 0) (Err UnknownDaemon) b c)
+    (λ x y q. absurd q) said) counted
+untold_same d checked told old new (Err BoardFull) (Err memory) picks said counted = absurd picks
+untold_same d checked told old new (Err OutOfMemory) (Err memory) picks said counted =
+    board_same old new (told_same old.shown new.shown
+    (λ b c. Starts d.id (fresh b checked d.interval d.terminate 0) (Err OutOfMemory) b c)
+    (λ x y q. q) said) counted
+
+-- a change that was asked for is told so
+change_said : (what : Change) (id : ByteList) (before after : BoardState) (o : Outcome)
+    → IsChangeChosen what id (op_done (change_word what) id)
+    (exception (codes "UnknownDaemon " ++ id)) before after o
+    → Says (change_ask what id) before after o
+change_said what id before after o c = by_change what c.answer c.picks c.told c.counted
+  where
+    is_told : (what : Change) (answer : Result (Unit {0}) BoardFault)
+        → o ≡ picked (op_done (change_word what) id)
+        (exception (codes "UnknownDaemon " ++ id)) answer
+        → o ≡ change_told what id answer
+    is_told what (Ok u) is = is
+    is_told what (Err fault) is = is
+
+    by_change : (what : Change) (answer : Result (Unit {0}) BoardFault)
+        → o ≡ picked (op_done (change_word what) id)
+        (exception (codes "UnknownDaemon " ++ id)) answer
+        → WhereTold before.shown after.shown (Makes what id answer)
+        → after.answers ≡ after_change what answer before.answers
+        → Says (change_ask what id) before after o
+    by_change Stop answer is told counted =
+        record { answer = answer; outcome = is_told Stop answer is; told = told; counted = counted }
+    by_change Start answer is told counted =
+        record { answer = answer; outcome = is_told Start answer is; told = told; counted = counted }
+    by_change Kill answer is told counted =
+        record { answer = answer; outcome = is_told Kill answer is; told = told; counted = counted }
+
+-- a start that was asked for is told so
+start_said : (d : NewDaemon) (checked : Checked) (before after : BoardState) (o : Outcome)
+    → IsStartChosen d checked (start_told d.id) before after o
+    → Says (question_ask (question.Start d checked)) before after o
+start_said d checked before after o c = record {
+  expr = checked;
+  tree = refl;
+  answer = c.answer;
+  outcome = is_told c.answer c.picks;
+  told = c.said;
+  counted = c.counted;
+}
+  where
+    is_told : (answer : Result (Unit {0}) BoardFault) → Picks (start_told d.id) answer o
+        → IsStartTold d.id answer o
+    is_told (Ok u) is = is
+    is_told (Err (DaemonTaken taken)) is = is
+    is_told (Err UnknownDaemon) is = is
+    is_told (Err BoardFull) is = is
+    is_told (Err OutOfMemory) is = is
+
+-- what was picked of all that a question may be answered is what the board said to it
+pub chosen_said : (q : Question) (before after : BoardState) (p : Prepared Outcome) (o : Outcome)
+    → IsPrepared q before p → Chooses p before after o
+    → MayTell q o × Says (question_ask q) before after o
+chosen_said (question.Nothing a) before after p o is c =
+    let said = subst (λ x. Chooses x before after o) is c in (said.1, said.0)
+chosen_said question.List before after p o is c =
+    let said = subst (λ x. Chooses x before after o) is.2 c in (
+      tt,
+      subst (λ x. IsListed before after x) (sym said.1)
+          (subst (λ x. IsListed before x is.0) (sym said.0) is.1),
+    )
+chosen_said (question.Change what id) before after p o is c =
+    (tt, change_said what id before after o (subst (λ x. Chooses x before after o) is c))
+chosen_said (question.Start d checked) before after p o is c =
+    (tt, start_said d checked before after o (subst (λ x. Chooses x before after o) is c))
+
+-- the response that was picked is that to an outcome that would have been picked
+pub chosen_reply : (closes : Bool) (p : Prepared Outcome) (before after : BoardState)
+    (bytes : ByteList) → Chooses (replied closes p) before after bytes
+    → (o : Outcome) × Chooses p before after o × (bytes ≡ reply_of closes 0 o)
+chosen_reply closes (prepared.Told a) before after bytes c = (a, (c.0, refl), c.1)
+chosen_reply closes (prepared.Change what id made unknown) before after bytes c =
+    by_answer c.answer c.picks c.told c.counted
+  where
+    by_answer : (answer : Result (Unit {0}) BoardFault)
+        → bytes ≡ picked (reply_of closes 0 made) (reply_of closes 0 unknown) answer
+        → WhereTold before.shown after.shown (Makes what id answer)
+        → after.answers ≡ after_change what answer before.answers
+        → (o : Outcome) × Chooses (prepared.Change what id made unknown) before after o
+        × (bytes ≡ reply_of closes 0 o)
+    by_answer (Ok u) is told counted =
+        (made, record { answer = Ok u; picks = refl; told = told; counted = counted }, is)
+    by_answer (Err fault) is told counted =
+        (unknown, record { answer = Err fault; picks = refl; told = told; counted = counted }, is)
+chosen_reply closes (prepared.Start d checked told) before after bytes c =
+    by_answer c.answer c.picks c.said c.counted
+  where
+    by_answer : (answer : Result (Unit {0}) BoardFault)
+        → Picks (start_replies closes told) answer bytes
+        → WhereTold before.shown after.shown
+        (λ b c. Starts d.id (fresh b checked d.interval d.terminate 0) answer b c)
+        → after.answers ≡ after_start answer before.answers
+        → (o : Outcome) × Chooses (prepared.Start d checked told) before after o
+        × (bytes ≡ reply_of closes 0 o)
+    by_answer (Ok u) is said counted =
+        (told.started, record { answer = Ok u; picks = refl; said = said; counted = counted }, is)
+    by_answer (Err (DaemonTaken taken)) is said counted =
+        let answer = Err (DaemonTaken taken) in
+        (told.taken, record { answer = answer; picks = refl; said = said; counted = counted }, is)
+    by_answer (Err UnknownDaemon) is said counted = absurd is
+    by_answer (Err BoardFull) is said counted =
+        let answer = Err BoardFull in
+        (told.full, record { answer = answer; picks = refl; said = said; counted = counted }, is)
+    by_answer (Err OutOfMemory) is said counted = absurd is
+
+-- the answer that was picked from the board as it was
+pub answer_picked : (q : Question) (old mid new : BoardState) (p : Prepared Outcome)
+    (r : Result Outcome Memory) → IsPrepared q old p → mid ≡ old → IsChosen p mid new r
+    → IsAnswerTo q old new r
+answer_picked q old mid new p (Ok o) is same c =
+    chosen_said q old new p o is (subst (λ x. Chooses p x new o) same c)
+answer_picked q old mid new p (Err memory) is same c = c ∙ same
+
+-- want of memory when the answers were made
+pub unprepared : (q : Question) (old new : BoardState) (r : Result Outcome Memory) (memory : Memory)
+    → r ≡ Err memory → new ≡ old → IsAnswerTo q old new r
+unprepared q old new r memory e same = subst (λ x. IsAnswerTo q old new x) (sym e) same
+
+-- what was answered to a question is what was asked
+pub asked_by : (ask : Ask) (q : Question) (old new : BoardState) (r : Result Outcome Memory)
+    → Asks ask q → IsAnswerTo q old new r → IsAsked ask old new r
+asked_by ask q old new (Ok o) asks said = subst (λ a. Says a old new o) asks said.1
+asked_by ask q old new (Err memory) asks same = same
+
+-- want of memory before the board was asked
 pub unasked : (ask : Ask) (b : BoardState) (r : Result Outcome Memory) (memory : Memory)
     → r ≡ Err memory → IsAsked ask b b r
-unasked ask b r memory e = subst (λ x. IsAsked ask b b x) (sym e) (inl refl)
-
-nothing_said : (b : BoardState) (r : Result Outcome Memory) → IsAsked nothing b b r
-nothing_said b (Ok o) = refl
-nothing_said b (Err memory) = inl refl
-
--- a board of which nothing is asked
-pub nothing_of : (ask : Ask) (b : BoardState) (r : Result Outcome Memory) → ask ≡ nothing
-    → IsAsked ask b b r
-nothing_of ask b r e = subst (λ a. IsAsked a b b r) (sym e) (nothing_said b r)
-
--- what is asked is the same by another name
-pub same_ask : (ask known : Ask) (old new : BoardState) (r : Result Outcome Memory) → ask ≡ known
-    → IsAsked known old new r → IsAsked ask old new r
-same_ask ask known old new r e = subst (λ a. IsAsked a old new r) (sym e)
-
-module _ (old new : BoardState) where
-  -- a list that lacked memory
-  pub list_broken : (memory : Memory) (r : Result Outcome Memory) → r ≡ Err memory
-      → WhereTold old.shown new.shown (λ x y. y ≡ x) → new.answers ≡ old.answers
-      → IsAsked lists old new r
-  list_broken memory r e told counted =
-      let same = board_same old new
-      (told_same old.shown new.shown (λ x y. y ≡ x) (λ x y q. q) told) counted in
-      subst (λ x. IsAsked lists old new x) (sym e) (inl same)
-
-  module _ (what : Change) (id : ByteList) (answer : Result (Unit {0}) BoardFault)
-      (told : WhereTold old.shown new.shown (Makes what id answer))
-      (counted : new.answers ≡ after_change what answer old.answers) where
-    changed_said : (o : Outcome) → o ≡ change_told what id answer
-        → Says (change_ask what id) old new o
-    changed_said o is = by_change what answer told counted is
-      where
-        by_change : (what : Change) (answer : Result (Unit {0}) BoardFault)
-            → WhereTold old.shown new.shown (Makes what id answer)
-            → new.answers ≡ after_change what answer old.answers → o ≡ change_told what id answer
-            → Says (change_ask what id) old new o
-        by_change Stop answer told counted is =
-            record { answer = answer; outcome = is; told = told; counted = counted }
-        by_change Start answer told counted is =
-            record { answer = answer; outcome = is; told = told; counted = counted }
-        by_change Kill answer told counted is =
-            record { answer = answer; outcome = is; told = told; counted = counted }
-
-    -- a change that was made or refused
-    pub changed : (r : Result Outcome Memory) → IfOk r (λ o. o ≡ change_told what id answer)
-        → IsAsked (change_ask what id) old new r
-    changed (Ok o) is = changed_said o is
-    changed (Err memory) is =
-        let o = change_told what id answer in inr (o, changed_said o refl)
-
-  module _ (id : ByteList) (e : Expr) (interval : ℕ) (terminate : Bool) where
-    abbrev StartTells : Result (Unit {0}) BoardFault → Type 0
-    StartTells answer =
-        WhereTold old.shown new.shown
-        (λ b c. Starts id (fresh b e interval terminate 0) answer b c)
-
-    -- a start that was answered
-    pub started : (answer : Result (Unit {0}) BoardFault) (o : Outcome) → IsStartTold id answer o
-        → StartTells answer → new.answers ≡ after_start answer old.answers
-        → Says (starts id (expr_tree e) interval terminate) old new o
-    started answer o is told counted = record {
-      expr = e;
-      tree = refl;
-      answer = answer;
-      outcome = is;
-      told = told;
-      counted = counted;
-    }
-
-    -- one that was refused, or lacked memory
-    pub start_refused : (fault : BoardFault) (r : Result Outcome Memory)
-        → IfOk r (IsStartTold id (Err fault)) → StartTells (Err fault)
-        → new.answers ≡ after_start (Err fault) old.answers
-        → IsAsked (starts id (expr_tree e) interval terminate) old new r
-    start_refused (DaemonTaken taken) (Ok o) is told counted =
-        started (Err (DaemonTaken taken)) o is told counted
-    start_refused (DaemonTaken taken) (Err memory) is told counted =
-        let o = exception (codes "DaemonTaken " ++ id) in
-        inr (o, started (Err (DaemonTaken taken)) o refl told counted)
-    start_refused UnknownDaemon (Ok o) is told counted = absurd is
-    start_refused UnknownDaemon (Err memory) is told counted =
-        inl (board_same old new (told_same old.shown new.shown
-        (λ b c. Starts id (fresh b e interval terminate 0) (Err UnknownDaemon) b c)
-        (λ x y q. absurd q) told) counted)
-    start_refused BoardFull (Ok o) is told counted = started (Err BoardFull) o is told counted
-    start_refused BoardFull (Err memory) is told counted =
-        let o = exception (codes "BoardFull") in
-        inr (o, started (Err BoardFull) o refl told counted)
-    start_refused OutOfMemory (Ok o) is told counted = absurd is
-    start_refused OutOfMemory (Err memory) is told counted =
-        inl (board_same old new (told_same old.shown new.shown
-        (λ b c. Starts id (fresh b e interval terminate 0) (Err OutOfMemory) b c)
-        (λ x y q. q) told) counted)
+unasked ask b r memory e = subst (λ x. IsAsked ask b b x) (sym e) refl

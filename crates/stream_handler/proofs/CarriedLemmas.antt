@@ -1,7 +1,7 @@
 -- How a request is carried out, from what its parts did.
 use Rattle.std.proofs.Common.{◌≡◌, ◌≢◌, refl, sym, ap, ◌∙◌, subst}
 use Rattle.std.proofs.lemmas.Option.{same_Some}
-use Rattle.std.specs.Prelude.{ℕ, Bool, Option, Some, None, Result, Ok, Err, IfOk, codes}
+use Rattle.std.specs.Prelude.{ℕ, Bool, Some, Result, Ok, Err, IfOk}
 use Rattle.tuple_values.specs.Document.{ByteList}
 use Rattle.tuple_values.specs.declared.memory.Memory.{Memory}
 use Rattle.json_text.specs.declared.fault.JsonFault.{JsonFault}
@@ -20,52 +20,82 @@ use Rattle.form_request.specs.declared.request.Request.{Request}
 use Rattle.stream_handler.specs.Refusals.{refusal}
 use Rattle.root_runs.specs.Texts.{full_text}
 use Rattle.root_runs.proofs.CarriedLemmas.{first_answered, first_done, first_stopped, nothing_asked, nothing_done}
-use Rattle.stream_handler.specs.Boards.{Ask}
-use Rattle.stream_handler.specs.Requests.{CarriedWith, IsBadBody, IsFaultTold, IsRefusal, action_course, expression_course, full_shard, indexed, plain_course, request_course, stream_course, update_course}
+use Rattle.stream_handler.specs.Boards.{Ask, BoardState}
+use Rattle.stream_handler.specs.Choices.{IsAnswerTo}
+use Rattle.stream_handler.specs.Questions.{CarriedTo, IsActionOf}
+use Rattle.stream_handler.specs.Requests.{CarriedWith, IsBadBody, IsRefusal, action_course, full_shard, indexed, plain_course, request_course, update_course}
 use Rattle.stream_handler.specs.declared.outcome.Outcome.{Outcome}
 use Rattle.stream_handler.specs.declared.outcome.Outcome.TheVariants.{Indexed, Refused}
+use Rattle.stream_handler.specs.declared.question.Question.{Question}
+use Rattle.stream_handler.specs.declared.question.Question.TheVariants as question
 use Rattle.stream_handler.specs.declared.update.FullShard.{FullShard}
 
--- a course in which nothing is asked of the board
-pub carried_with : (old new : Writer) (p : Course Outcome) (r : Result Outcome Memory)
-    → Carried old new p r → CarriedWith old new (λ told. p) r
-carried_with old new p (Ok o) c = c
-carried_with old new p (Err memory) c = (Indexed, c)
+-- what the site alone did, of which the board is asked nothing
+pub site_done : (old new : Writer) (p : Course Outcome) (o : Outcome) → Answers old new p o
+    → CarriedTo old new (λ told. p) (Ok (question.Nothing o))
+site_done old new p o c = λ told may. subst (λ x. Answers old new p x) (sym may) c
+
+-- it stopped for want of memory
+pub site_stopped : (old new : Writer) (p : Outcome → Course Outcome) (told : Outcome)
+    (r : Result Question Memory) (memory : Memory) → r ≡ Err memory → Begins old new (p told)
+    → CarriedTo old new p r
+site_stopped old new p told r memory e b =
+    subst (λ x. CarriedTo old new p x) (sym e) (told, b)
 
 -- courses that are the same, whatever the board told
-pub same_course : (old new : Writer) (p q : Outcome → Course Outcome) (r : Result Outcome Memory)
-    → ((told : Outcome) → q told ≡ p told) → CarriedWith old new p r → CarriedWith old new q r
-same_course old new p q (Ok o) e c = subst (λ k. Answers old new k o) (sym (e o)) c
+pub same_course : (old new : Writer) (p q : Outcome → Course Outcome) (r : Result Question Memory)
+    → ((told : Outcome) → q told ≡ p told) → CarriedTo old new p r → CarriedTo old new q r
+same_course old new p q (Ok x) e c =
+    λ told may. subst (λ k. Answers old new k told) (sym (e told)) (c told may)
 same_course old new p q (Err memory) e c =
     (c.0, subst (λ k. Begins old new k) (sym (e c.0)) c.1)
 
--- a writer that did nothing, while the board was asked
-pub board_carried : (w : Writer) (r : Result Outcome Memory) → CarriedWith w w (λ told. ends told) r
-board_carried w (Ok o) = nothing_asked w o
-board_carried w (Err memory) = (Indexed, nothing_done w (ends Indexed))
+-- a writer that did nothing, and leaves the answer to the board
+pub board_carried : (w : Writer) (q : Question) → CarriedTo w w (λ told. ends told) (Ok q)
+board_carried w q = λ told may. nothing_asked w told
 
--- an action that asked the board, or had a fault
-pub action_carried : (w : Writer) (read : Result Ask ByteList) (r : Result Outcome Memory)
-    → IfOk r (IsFaultTold read) → CarriedWith w w (λ told. action_course told read) r
-action_carried w (Ok ask) r said = board_carried w r
-action_carried w (Err text) (Ok o) said =
-    subst (λ x. Answers w w (ends x) o) said (nothing_asked w o)
-action_carried w (Err text) (Err memory) said =
-    (Indexed, nothing_done w (ends (exception text)))
+-- an action asks the board, or has a fault
+pub action_carried : (w : Writer) (read : Result Ask ByteList) (r : Result Question Memory)
+    → IfOk r (IsActionOf read) → CarriedTo w w (λ told. action_course told read) r
+action_carried w (Ok ask) (Ok q) is = board_carried w q
+action_carried w (Err text) (Ok q) is =
+    subst (λ x. CarriedTo w w (λ told. ends (exception text)) (Ok x)) (sym is)
+    (site_done w w (ends (exception text)) (exception text) (nothing_asked w (exception text)))
+action_carried w read (Err memory) is =
+    (Indexed, nothing_done w (action_course Indexed read))
 
 -- want of memory before anything was done
-pub nothing_carried : (w : Writer) (p : Outcome → Course Outcome) (r : Result Outcome Memory)
-    (memory : Memory) → r ≡ Err memory → CarriedWith w w p r
-nothing_carried w p r memory e =
-    subst (λ x. CarriedWith w w p x) (sym e) (Indexed, nothing_done w (p Indexed))
+pub nothing_carried : (w : Writer) (p : Outcome → Course Outcome) (r : Result Question Memory)
+    (memory : Memory) → r ≡ Err memory → CarriedTo w w p r
+nothing_carried w p r memory e = site_stopped w w p Indexed r memory e (nothing_done w (p Indexed))
 
--- a text that says no expression is answered with its fault
-pub told_done : (w : Writer) (l : Layout) (read : Result ExprTree ByteList) (text : ByteList)
-    → read ≡ Err text
-    → Answers w w (expression_course l (exception text) read) (exception text)
-told_done w l read text e =
-    subst (λ r. Answers w w (expression_course l (exception text) r) (exception text)) (sym e)
-    (nothing_asked w (exception text))
+-- the answer is known, whatever the board is
+pub known_told : (w : Writer) (p : Outcome → Course Outcome) (o : Outcome)
+    → ((told : Outcome) → p told ≡ ends o) → CarriedTo w w p (Ok (question.Nothing o))
+known_told w p o e =
+    same_course w w (λ told. ends o) p (Ok (question.Nothing o)) e
+    (site_done w w (ends o) o (nothing_asked w o))
+
+-- what was carried out as far as a question is a beginning
+pub question_begun : (old new : Writer) (p : Outcome → Course Outcome) (q : Question)
+    → CarriedTo old new p (Ok q) → (told : Outcome) × Begins old new (p told)
+question_begun old new p (question.Nothing o) c = (o, (ends o, c o refl))
+question_begun old new p question.List c = (Indexed, (ends Indexed, c Indexed tt))
+question_begun old new p (question.Change what id) c = (Indexed, (ends Indexed, c Indexed tt))
+question_begun old new p (question.Start d checked) c = (Indexed, (ends Indexed, c Indexed tt))
+
+-- want of memory before a question was there
+pub carried_before : (old new : Writer) (p : Outcome → Course Outcome) (r : Result Outcome Memory)
+    (memory : Memory) → r ≡ Err memory → (told : Outcome) × Begins old new (p told)
+    → CarriedWith old new p r
+carried_before old new p r memory e b = subst (λ x. CarriedWith old new p x) (sym e) b
+
+-- an answer to a question, by what the writer did and the board said
+pub told_answer : (old new : Writer) (p : Outcome → Course Outcome) (q : Question)
+    (b c : BoardState) (r : Result Outcome Memory) → CarriedTo old new p (Ok q)
+    → IsAnswerTo q b c r → CarriedWith old new p r
+told_answer old new p q b c (Ok o) carried said = carried o said.0
+told_answer old new p q b c (Err memory) carried same = question_begun old new p q carried
 
 -- so is one that says none that only reads
 pub plain_told : (w : Writer) (l : Layout) (read : Result ExprTree ByteList) (text : ByteList)
@@ -73,15 +103,6 @@ pub plain_told : (w : Writer) (l : Layout) (read : Result ExprTree ByteList) (te
 plain_told w l read text e =
     subst (λ r. Answers w w (plain_course l r) (exception text)) (sym e)
     (nothing_asked w (exception text))
-
--- a parameter that isn't there is answered so
-pub missing_done : (w : Writer) (l : Layout) (given : Option ByteList) (text : ByteList)
-    → given ≡ None → text ≡ codes "MissingParam stream expr"
-    → Answers w w (stream_course l (exception text) given) (exception text)
-missing_done w l given text none said =
-    subst (λ g. Answers w w (stream_course l (exception text) g) (exception text)) (sym none)
-    (subst (λ t. Answers w w (ends (exception t)) (exception text)) said
-    (nothing_asked w (exception text)))
 
 -- a body that says no update is refused
 pub body_refused : (w : Writer) (l : Layout) (collection : ByteList) (commit : Bool)
@@ -135,11 +156,8 @@ full_told (BookFull topics) full text is told = absurd (cc)
 full_told (OutOfMemory stand) full text is told = absurd (cc)
 
 -- a collection that isn't there is told so
-pub unknown_told : (w : Writer) (l : Layout) (r : Request) (res : Result Outcome Memory)
-    → shards_of l.names r.collection ≡ 0 → IfOk res (λ o. o ≡ refusal 404)
-    → CarriedWith w w (λ told. request_course l told r) res
-unknown_told w l r (Ok o) none said =
-    let e : request_course l o r ≡ ends o = rw (none, said) refl in
-    subst (λ p. Answers w w p o) (sym e) (nothing_asked w o)
-unknown_told w l r (Err memory) none said =
-    (Indexed, nothing_done w (request_course l Indexed r))
+pub unknown_told : (w : Writer) (l : Layout) (r : Request) (o : Outcome)
+    → shards_of l.names r.collection ≡ 0 → o ≡ refusal 404
+    → CarriedTo w w (λ told. request_course l told r) (Ok (question.Nothing o))
+unknown_told w l r o none said =
+    known_told w (λ told. request_course l told r) o (λ told. rw (none, said) refl)

@@ -202,9 +202,7 @@ session_cleared l old new w v exchanges rest e s = record {
         told = b.told;
         left = b.left;
         followed = b.followed;
-        board = b.board;
         boards = b.boards;
-        asked = b.asked;
       },
     )
 

@@ -1,6 +1,7 @@
 pub mod StorableLemmas
 pub mod BoardLemmas
 pub mod CarriedLemmas
+pub mod RespondLemmas
 pub mod RootLemmas
 pub mod PassLemmas
 pub mod WireLemmas

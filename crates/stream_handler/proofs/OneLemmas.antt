@@ -158,9 +158,7 @@ module _ (l : Layout) (start mid : Wire) (w v : Writer) (request : Request)
         told = s.begun.told;
         left = s.begun.begun.0;
         followed = s.begun.begun.1.followed;
-        board = start.board;
-        boards = refl;
-        asked = s.begun.board;
+        boards = s.begun.board;
       },
     );
   }

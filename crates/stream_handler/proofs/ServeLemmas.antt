@@ -269,7 +269,5 @@ over_join l old mid new u v w xs ys rest e p other q = record {
       followed = subst (λ me. Follows me w.seen (counts b.mid.seen)
           (request_course l b.told b.message.request) b.accesses b.left (counts w.seen))
           p.exchanged.same b.followed;
-      board = b.board;
-      boards = boards_join l old.board mid.board b.board xs ys p.boards b.boards;
-      asked = b.asked;
+      boards = boards_join l old.board mid.board new.board xs ys p.boards b.boards;
     }

@@ -1,5 +1,5 @@
 -- What makes an exchange sound, and what sound exchanges tell of the writer's own steps.
-use Rattle.std.proofs.Common.{◌≡◌, ℕ, Bool, List, [], ◌∷◌, length, sym, ◌∙◌, subst, inr}
+use Rattle.std.proofs.Common.{◌≡◌, ℕ, Bool, List, [], ◌∷◌, length, sym, ◌∙◌, subst}
 use Rattle.std.specs.Prelude.{◌||◌, Option, Some, None, Result, Ok, Err, IfErr, codes, nat_lt}
 use Rattle.tuple_values.specs.Document.{ByteList}
 use Rattle.tuple_values.specs.declared.memory.Memory.{Memory}
@@ -26,7 +26,7 @@ use Rattle.json_text.specs.Updates.{update_in}
 use Rattle.expr_types.specs.ExprTree.{ExprTree, operator_in}
 use Rattle.topic_book.specs.Fitness.{shards_of}
 use Rattle.stream_handler.specs.Asks.{action_read, ask_of, daemon_of}
-use Rattle.stream_handler.specs.Boards.{Ask, BoardState, MayAsk, Says}
+use Rattle.stream_handler.specs.Boards.{Ask, BoardState, Says}
 use Rattle.stream_handler.specs.Exchanges.{Answer, AreSound, IsAnswered, IsBroken, IsSound, exchanges_of, owns_of}
 use Rattle.expr_check.specs.declared.roots.Roots.TheVariants.{All}
 use Rattle.expr_text.specs.Reading.{expression_of}
@@ -185,22 +185,14 @@ answered_of {l} {m} {w} {u} {end} {new} {before} {after} {r} {a} {o} fresh same 
 -- a request that stopped for want of memory is broken
 pub broken_of : {l m : Layout} {w u new : Writer} {before after : BoardState} {r : Request}
     (told : Outcome)
-    → u ≡ cleared w → m ≡ l → Begins u new (request_course m told r)
-    → MayAsk (ask_of m.names r) before after → IsBroken l w new before after r
-broken_of {l} {m} {w} {u} {new} {before} {after} {r} told fresh same begun asked = record {
+    → u ≡ cleared w → m ≡ l → Begins u new (request_course m told r) → after ≡ before
+    → IsBroken l w new before after r
+broken_of {l} {m} {w} {u} {new} {before} {after} {r} told fresh same begun board = record {
   told = told;
   begun = subst (λ (x : Layout). Begins (cleared w) new (request_course x told r)) same
       (subst (λ (x : Writer). Begins x new (request_course m told r)) fresh begun);
-  board = subst (λ (x : Layout). MayAsk (ask_of x.names r) before after) same asked;
+  board = board;
 }
-
--- so is one whose reply lacked memory
-pub unreplied_of : {l m : Layout} {w u new : Writer} {before after : BoardState} {r : Request}
-    (o : Outcome)
-    → u ≡ cleared w → m ≡ l → Answers u new (request_course m o r) o
-    → Says (ask_of m.names r) before after o → IsBroken l w new before after r
-unreplied_of {l} {m} {w} {u} {new} {before} {after} {r} o fresh same went says =
-    broken_of o fresh same (ends o, went) (inr (o, says))
 
 -- an answer that lacked memory leaves the request broken
 pub is_broken : {P : Type 0} (r : Result Answered Memory) → P → IfErr r (λ _. P)

@@ -1,6 +1,6 @@
 -- What is asked of a board of daemons, and what the board says to it (own; Solr Reference Guide,
 -- "Stream Decorator Reference", daemon). All times are 0.
-use Rattle.std.specs.Prelude.{ℕ, ◌≡◌, ◌++◌, ◌⊎◌, Bool, List, [], ◌∷◌, Option, None, Result, Ok, Err, codes}
+use Rattle.std.specs.Prelude.{ℕ, ◌≡◌, ◌++◌, Bool, List, [], ◌∷◌, Option, None, Result, Ok, Err, codes}
 use Rattle.tuple_values.specs.Document.{ByteList, Doc, text}
 use Rattle.tuple_values.specs.declared.memory.Memory.{Memory}
 use Rattle.expr_types.specs.ExprTree.{ExprTree, expr_tree}
@@ -110,11 +110,8 @@ Says (resumes id) old new o = IsChanged Start id old new o
 Says (kills id) old new o = IsChanged Kill id old new o
 Says (starts id t interval terminate) old new o = IsStarted id t interval terminate old new o
 
--- where memory was wanting the board is as it was, or it had said some outcome
-abbrev pub MayAsk : Ask → BoardState → BoardState → Type 0
-MayAsk ask old new = (new ≡ old) ⊎ ((o : Outcome) × Says ask old new o)
-
--- the board was asked, and the outcome is what it said, unless memory was wanting
+-- the board was asked, and the outcome is what it said, unless memory was wanting: then it is as it
+-- was
 abbrev pub IsAsked : Ask → BoardState → BoardState → Result Outcome Memory → Type 0
 IsAsked ask old new (Ok o) = Says ask old new o
-IsAsked ask old new (Err memory) = MayAsk ask old new
+IsAsked ask old new (Err memory) = new ≡ old

@@ -1,7 +1,8 @@
 -- Exchanges: what requests did and were answered, one after another (own).
-use Rattle.std.specs.Prelude.{ℕ, ◌≡◌, List, [], ◌∷◌, ◌++◌, map}
+use Rattle.std.specs.Prelude.{ℕ, ◌≡◌, List, [], ◌∷◌, ◌++◌, map, Result, Ok, Err}
 use Rattle.std.specs.List.{flat_map}
 use Rattle.tuple_values.specs.Document.{ByteList}
+use Rattle.tuple_values.specs.declared.memory.Memory.{Memory}
 use Rattle.shard_versions.specs.declared.cut.CutMark.{CutMark}
 use Rattle.shard_versions.specs.declared.cut.OwnMark.{OwnMark}
 use Rattle.exchange_rules.specs.Accesses.{Access, marks_of, own_of}
@@ -13,7 +14,7 @@ use Rattle.exchange_rules.specs.Recorded.{AreRecorded, AreLookedAt}
 use Rattle.form_request.specs.declared.reading.Message.{Message}
 use Rattle.form_request.specs.declared.request.Request.{Request}
 use Rattle.stream_handler.specs.Asks.{ask_of}
-use Rattle.stream_handler.specs.Boards.{BoardState, MayAsk, Says}
+use Rattle.stream_handler.specs.Boards.{BoardState, Says}
 use Rattle.stream_handler.specs.Outcomes.{reply_of}
 use Rattle.stream_handler.specs.Passing.{said}
 use Rattle.stream_handler.specs.Requests.{request_course}
@@ -99,10 +100,20 @@ pub record IsAnswered (l : Layout) (old new : Writer) (before after : BoardState
   pub sound : IsSound old.me end.seen (counts old.seen) (request_course l outcome request)
       a.exchange outcome (counts end.seen)
 
+-- a request was carried out, and this is the response after no time; where memory was wanting, a
+-- beginning of its course was followed, and the board is as it was
+abbrev pub IsResponded : Layout → Writer → Writer → BoardState → BoardState → Request
+    → Result ByteList Memory → Type 0
+IsResponded l old new before after r (Ok bytes) =
+    (o : Outcome) × Answers old new (request_course l o r) o
+    × Says (ask_of l.names r) before after o × (bytes ≡ reply_of r.closes 0 o)
+IsResponded l old new before after r (Err memory) =
+    ((told : Outcome) × Begins old new (request_course l told r)) × (after ≡ before)
+
 -- a request was begun, by a writer that began with an empty record, and memory was wanting: a
--- beginning of its course was followed, and the board was asked or not
+-- beginning of its course was followed, and the board is as it was
 pub record IsBroken (l : Layout) (old new : Writer) (before after : BoardState) (request : Request)
     : Type 0 where
   pub told : Outcome
   pub begun : Begins (cleared old) new (request_course l told request)
-  pub board : MayAsk (ask_of l.names request) before after
+  pub board : after ≡ before

@@ -5,6 +5,8 @@ pub mod Refusals
 pub mod Boards
 pub mod Asks
 pub mod Requests
+pub mod Questions
+pub mod Choices
 pub mod Passing
 pub mod Exchanges
 pub mod Sessions

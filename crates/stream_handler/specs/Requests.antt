@@ -101,11 +101,6 @@ abbrev pub stream_course : Layout → Outcome → Option ByteList → Course Out
 stream_course l told None = ends (exception (codes "MissingParam stream expr"))
 stream_course l told (Some bytes) = expression_course l told (expression_of All l.names bytes)
 
--- where an action has a fault, the answer is its exception
-abbrev pub IsFaultTold : Result Ask ByteList → Outcome → Type 0
-IsFaultTold (Ok ask) o = Unit {0}
-IsFaultTold (Err text) o = o ≡ exception text
-
 -- an action asks the board, and does nothing at the site; or it has a fault
 abbrev pub action_course : Outcome → Result Ask ByteList → Course Outcome
 action_course told (Err text) = ends (exception text)

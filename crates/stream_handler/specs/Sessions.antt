@@ -16,8 +16,7 @@ use Rattle.form_request.specs.declared.plan.Stage.TheVariants as stage
 use Rattle.form_request.specs.declared.reading.After.{After}
 use Rattle.form_request.specs.declared.reading.After.TheVariants.{Rest}
 use Rattle.form_request.specs.declared.reading.Message.{Message}
-use Rattle.stream_handler.specs.Asks.{ask_of}
-use Rattle.stream_handler.specs.Boards.{BoardState, MayAsk}
+use Rattle.stream_handler.specs.Boards.{BoardState}
 use Rattle.stream_handler.specs.Exchanges.{Answer, AreSound, BoardsAlong, messages_of, exchanges_of, replies_of, reply_to, looks_of, owns_of}
 use Rattle.stream_handler.specs.Passing.{Passes, front_text, said}
 use Rattle.stream_handler.specs.Refusals.{refusal_reply}
@@ -107,7 +106,7 @@ pub record IsServed (l : Layout) (old new : Wire) (w v : Writer) (answers : List
   pub recorded : record_of v ≡ nothing
 
 -- a request was begun behind these exchanges: its message is read, nothing of its reply is written,
--- what was done is a beginning of its course, as the record says, and the board was asked or not
+-- what was done is a beginning of its course, as the record says, and the board was not asked
 pub record IsBegun (l : Layout) (old new : Wire) (w v : Writer) (answers : List Answer)
     (rest : Record) : Type 0 where
   pub message : Message
@@ -126,9 +125,7 @@ pub record IsBegun (l : Layout) (old new : Wire) (w v : Writer) (answers : List 
   pub left : Course Outcome
   pub followed : Follows w.me v.seen (counts mid.seen) (request_course l told message.request)
       accesses left (counts v.seen)
-  pub board : BoardState
-  pub boards : BoardsAlong l old.board answers board
-  pub asked : MayAsk (ask_of l.names message.request) board new.board
+  pub boards : BoardsAlong l old.board answers new.board
 
 -- the last of these requests asked to close, and nothing is read behind it
 abbrev pub IsClosed : List Answer → Held → Type 0

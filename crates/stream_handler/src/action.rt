@@ -1,12 +1,13 @@
 // Actions at `/stream`, which ask the board of daemons.
-ghost use Rattle.std.specs.Prelude.{◌≡◌, ◌++◌, IfOk, option_map};
+ghost use Rattle.std.specs.Prelude.{◌≡◌, ◌++◌, Err, IfOk, option_map};
 ghost use Rattle.daemon_board.specs.Calls.{WhereTold};
-ghost use Rattle.stream_handler.specs.Asks.{action_read, ask_in, change_ask, change_of, change_read};
-ghost use Rattle.stream_handler.specs.Boards.{IsAsked, Makes, after_change, board_state, change_word, lists, op_docs, op_done};
+ghost use Rattle.stream_handler.specs.Asks.{action_read, change_of, change_read};
+ghost use Rattle.stream_handler.specs.Boards.{Makes, after_change, change_word, op_docs, op_done};
 ghost use Rattle.stream_handler.specs.Outcomes.{exception};
-ghost use Rattle.stream_handler.specs.Requests.{IsFaultTold};
+ghost use Rattle.stream_handler.specs.Questions.{IsActionOf};
 
 use crate::Outcome;
+use crate::question::Question;
 use daemon_board::{BoardFault, Daemons};
 use std::alloc::Global;
 use tuple_values::{Memory, Text, Tuple, Tuples, Value};
@@ -20,7 +21,7 @@ pub enum Change {
 }
 
 impl Change {
-    fn word(self) -> &'static str
+    pub(crate) fn word(self) -> &'static str
         ensures { result.now ≡ change_word self }
     {
         match self {
@@ -92,8 +93,8 @@ fn change_of(action: &str) -> Option<Change>
     }
 }
 
-// Asks the board for the change of a daemon.
-fn ask_for<D: Daemons>(board: &mut D, what: Change, id: &str) -> Result<(), BoardFault>
+/// Asks the board for the change of a daemon.
+pub(crate) fn ask_for<D: Daemons>(board: &mut D, what: Change, id: &str) -> Result<(), BoardFault>
     ensures told { WhereTold (D.shown board.old) (D.shown board.new) (Makes what id.now result) }
     ensures counted { D.answers board.new ≡ after_change what result (D.answers board.old) }
 {
@@ -104,68 +105,42 @@ fn ask_for<D: Daemons>(board: &mut D, what: Change, id: &str) -> Result<(), Boar
     }
 }
 
-// Changes a daemon of the board, or says that there is none with the id.
-fn make<D: Daemons>(alloc: Global, board: &mut D, what: Change, id: &str) -> Result<Outcome, Memory>
-    ensures { IsAsked (change_ask what id.now)
-        (board_state (D.shown board.old) (D.answers board.old))
-        (board_state (D.shown board.new) (D.answers board.new)) result }
+// A fault of an action, of which the board is asked nothing.
+fn fault_told(alloc: Global, fault: &str) -> Result<Question, Memory>
+    ensures { IfOk result (IsActionOf (Err fault.now)) }
 {
-    let done = op_done(alloc, what.word(), id)?;
-    match ask_for(board, what, id) {
-        Ok(()) => Ok(done),
-        Err(_) => refused(alloc, "UnknownDaemon ", id),
-    }
+    let outcome = faulted(alloc, fault)?;
+    Ok(Question::Nothing(outcome))
 }
 
-// Gives the tuples of the board.
-fn list<D: Daemons>(alloc: Global, board: &mut D) -> Result<Outcome, Memory>
-    ensures { IsAsked lists (board_state (D.shown board.old) (D.answers board.old))
-        (board_state (D.shown board.new) (D.answers board.new)) result }
-{
-    let docs = board.list(alloc)?;
-    Ok(Outcome::ResultSet {
-        docs,
-        exception: None,
-    })
-}
-
-// What an action other than a list does, or its fault.
-fn make_named<D: Daemons>(
-    alloc: Global,
-    board: &mut D,
-    what: Option<Change>,
-    id: Option<&str>,
-) -> Result<Outcome, Memory>
-    ensures asked { IsAsked (ask_in (change_read what (option_map (λ s. s.now) id.entry)))
-        (board_state (D.shown board.old) (D.answers board.old))
-        (board_state (D.shown board.new) (D.answers board.new)) result }
-    ensures fault { IfOk result
-        (IsFaultTold (change_read what (option_map (λ s. s.now) id.entry))) }
+// What an action other than a list asks, or its fault.
+fn named_question(alloc: Global, what: Option<Change>, id: Option<&str>) -> Result<Question, Memory>
+    ensures { IfOk result
+        (IsActionOf (change_read what (option_map (λ s. s.now) id.entry))) }
 {
     match what {
-        None => faulted(alloc, "BadParam stream action"),
+        None => fault_told(alloc, "BadParam stream action"),
         Some(what) => match id {
-            None => faulted(alloc, "MissingParam stream id"),
-            Some(id) => make(alloc, board, what, id),
+            None => fault_told(alloc, "MissingParam stream id"),
+            Some(id) => Ok(Question::Change {
+                what,
+                id: Text::of(alloc, id)?,
+            }),
         },
     }
 }
 
-/// What an action does, which asks the board, or its fault.
-pub(crate) fn act<D: Daemons>(
+/// What an action asks of the board, or its fault.
+pub(crate) fn action_question(
     alloc: Global,
-    board: &mut D,
     action: &str,
     id: Option<&str>,
-) -> Result<Outcome, Memory>
-    ensures asked { IsAsked (ask_in (action_read action.now (option_map (λ s. s.now) id.entry)))
-        (board_state (D.shown board.old) (D.answers board.old))
-        (board_state (D.shown board.new) (D.answers board.new)) result }
-    ensures fault { IfOk result
-        (IsFaultTold (action_read action.now (option_map (λ s. s.now) id.entry))) }
+) -> Result<Question, Memory>
+    ensures { IfOk result
+        (IsActionOf (action_read action.now (option_map (λ s. s.now) id.entry))) }
 {
     if action == "list" {
-        return list(alloc, board);
+        return Ok(Question::List);
     }
-    make_named(alloc, board, change_of(action), id)
+    named_question(alloc, change_of(action), id)
 }

@@ -1,10 +1,11 @@
 // What requests did, and the answer to one.
 ghost use Rattle.std.specs.Prelude.{◌≡◌, IfOk, IfErr};
 ghost use Rattle.stream_handler.specs.Boards.{board_state};
-ghost use Rattle.stream_handler.specs.Exchanges.{IsAnswered, IsBroken};
+ghost use Rattle.stream_handler.specs.Exchanges.{IsAnswered, IsBroken, IsResponded};
 ghost use Rattle.root_runs.specs.Stays.{Stays};
 
-use crate::run_request;
+use crate::question::prepare;
+use crate::request::request_question;
 use daemon_board::Daemons;
 use form_request::Request;
 use io_edge::Gate;
@@ -34,8 +35,30 @@ pub struct Answered {
     pub exchange: Exchange,
 }
 
+// Carries out a request, and gives the response to it after no time. All responses that there may
+// be are made before the board is asked.
+fn respond<T: Turns, D: Daemons, R: Threads + Sync, G: Gate>(
+    alloc: Global,
+    rt: &R,
+    site: &mut T,
+    board: &mut D,
+    request: &Request,
+    gate: &G,
+) -> Result<Bytes, Memory>
+    ensures responded { IsResponded (T.layout site.old) (T.writer site.old) (T.writer site.new)
+        (board_state (D.shown board.old) (D.answers board.old))
+        (board_state (D.shown board.new) (D.answers board.new)) request.now result }
+    ensures stays { Stays T.layout T.home T.free site.old site.new }
+{
+    let question = request_question(alloc, rt, site, request, gate)?;
+    let prepared = prepare(alloc, board, question)?;
+    let replies = prepared.replies(alloc, request.closes)?;
+    replies.ask(alloc, board)
+}
+
 /// Carries out a request, which is dropped. The site's record begins anew, and is the exchange's at
-/// the end. Where memory is wanting, what was done so far stands in the record. All times are 0.
+/// the end. Where memory was wanting, what was done so far stands in the record, and the board is as
+/// it was. All times are 0.
 pub fn answer<T: Turns, D: Daemons, R: Threads + Sync, G: Gate>(
     alloc: Global,
     rt: &R,
@@ -54,8 +77,7 @@ pub fn answer<T: Turns, D: Daemons, R: Threads + Sync, G: Gate>(
     ensures free { T.free site.new }
 {
     let _ = take_record_over(site);
-    let outcome = run_request(alloc, rt, site, board, &request, gate)?;
-    let reply = outcome.reply(alloc, request.closes, 0)?;
+    let reply = respond(alloc, rt, site, board, &request, gate)?;
     let record = take_record_over(site);
     let exchange = Exchange {
         marks: record.marks,

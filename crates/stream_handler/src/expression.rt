@@ -8,11 +8,14 @@ ghost use Rattle.expr_types.specs.Plain.{IsPlain};
 ghost use Rattle.expr_types.specs.ExprTree.{operator_in};
 ghost use Rattle.stream_handler.specs.Asks.{daemon_of, expression_ask, root_ask, stream_ask};
 ghost use Rattle.stream_handler.specs.Boards.{IsAsked, board_state};
+ghost use Rattle.stream_handler.specs.Questions.{Asks, CarriedTo};
 ghost use Rattle.stream_handler.specs.Requests.{CarriedWith, deed_course, expression_course, plain_course, root_or_told, stream_course};
 ghost use Rattle.root_runs.specs.Stays.{Stays};
 
 use crate::Outcome;
-use crate::starting::{daemon_of, start};
+use crate::action::faulted;
+use crate::question::{Question, ask};
+use crate::starting::daemon_of;
 use daemon_board::Daemons;
 use expr_check::{Checked, Roots};
 use expr_text::{TextFault, read_checked};
@@ -21,7 +24,7 @@ use root_runs::{run_deed, run_plain};
 use std::alloc::Global;
 use std::thread::Threads;
 use stream_site::Turns;
-use tuple_values::{Memory, Text};
+use tuple_values::Memory;
 
 // What an expression gives at the site that only reads.
 fn give<T: Turns, R: Threads + Sync, G: Gate>(
@@ -83,32 +86,56 @@ fn carry_out<T: Turns, R: Threads + Sync, G: Gate>(
     })
 }
 
-// What an expression does, at the site or at the board.
-fn run_checked<T: Turns, D: Daemons, R: Threads + Sync, G: Gate>(
+// What an expression does at the site, and what it asks of the board.
+fn checked_question<T: Turns, R: Threads + Sync, G: Gate>(
     alloc: Global,
     rt: &R,
     site: &mut T,
-    board: &mut D,
     checked: Checked,
     gate: &G,
-) -> Result<Outcome, Memory>
-    ensures course { CarriedWith (T.writer site.old) (T.writer site.new) (λ told.
+) -> Result<Question, Memory>
+    ensures course { CarriedTo (T.writer site.old) (T.writer site.new) (λ told.
         root_or_told (T.layout site.old) told (tree_of checked)
         (daemon_of (operator_in (tree_of checked)))) result }
-    ensures asked { IsAsked (root_ask (tree_of checked) (daemon_of (operator_in (tree_of checked))))
-        (board_state (D.shown board.old) (D.answers board.old))
-        (board_state (D.shown board.new) (D.answers board.new)) result }
+    ensures asks { IfOk result
+        (Asks (root_ask (tree_of checked) (daemon_of (operator_in (tree_of checked))))) }
     ensures stays { Stays T.layout T.home T.free site.old site.new }
 {
     let found = daemon_of(alloc, checked.expr())?;
     match found {
-        Some(daemon) => start(alloc, board, daemon, checked),
-        None => carry_out(alloc, rt, site, &checked, gate),
+        Some(daemon) => Ok(Question::Start { daemon, checked }),
+        None => {
+            let outcome = carry_out(alloc, rt, site, &checked, gate)?;
+            Ok(Question::Nothing(outcome))
+        }
+    }
+}
+
+// The same of the bytes of an expression, or the exception of their first fault.
+fn expression_question<T: Turns, R: Threads + Sync, G: Gate>(
+    alloc: Global,
+    rt: &R,
+    site: &mut T,
+    bytes: &[u8],
+    gate: &G,
+) -> Result<Question, Memory>
+    ensures course { CarriedTo (T.writer site.old) (T.writer site.new) (λ told.
+        expression_course (T.layout site.old) told
+        (expression_of All (T.layout site.old).names bytes.now)) result }
+    ensures asks { IfOk result
+        (Asks (expression_ask (expression_of All (T.layout site.old).names bytes.now))) }
+    ensures stays { Stays T.layout T.home T.free site.old site.new }
+{
+    match read_checked(alloc, site.names(), bytes, Roots::All) {
+        Ok(checked) => checked_question(alloc, rt, site, checked, gate),
+        Err(TextFault::Told(text)) => Ok(Question::Nothing(Outcome::exception(alloc, text))),
+        Err(TextFault::OutOfMemory) => Err(Memory::OutOfMemory),
     }
 }
 
 /// What the bytes of an expression do at the site, or the exception of their first fault. A daemon
-/// is put on the board, where it runs from now on.
+/// is put on the board, where it runs from now on. The board is asked last: where memory is wanting
+/// it is as it was.
 pub fn run_expression<T: Turns, D: Daemons, R: Threads + Sync, G: Gate>(
     alloc: Global,
     rt: &R,
@@ -125,34 +152,29 @@ pub fn run_expression<T: Turns, D: Daemons, R: Threads + Sync, G: Gate>(
         (board_state (D.shown board.new) (D.answers board.new)) result }
     ensures stays { Stays T.layout T.home T.free site.old site.new }
 {
-    match read_checked(alloc, site.names(), bytes, Roots::All) {
-        Ok(checked) => run_checked(alloc, rt, site, board, checked, gate),
-        Err(TextFault::Told(text)) => Ok(Outcome::exception(alloc, text)),
-        Err(TextFault::OutOfMemory) => Err(Memory::OutOfMemory),
-    }
+    let question = expression_question(alloc, rt, site, bytes, gate)?;
+    ask(alloc, board, question)
 }
 
-pub(crate) fn run_stream<T: Turns, D: Daemons, R: Threads + Sync, G: Gate>(
+/// What the expression of a parameter does at the site, and what it asks of the board.
+pub(crate) fn stream_question<T: Turns, R: Threads + Sync, G: Gate>(
     alloc: Global,
     rt: &R,
     site: &mut T,
-    board: &mut D,
     expr: Option<&str>,
     gate: &G,
-) -> Result<Outcome, Memory>
-    ensures course { CarriedWith (T.writer site.old) (T.writer site.new) (λ told.
+) -> Result<Question, Memory>
+    ensures course { CarriedTo (T.writer site.old) (T.writer site.new) (λ told.
         stream_course (T.layout site.old) told (option_map (λ s. s.now) expr.entry)) result }
-    ensures asked { IsAsked
-        (stream_ask (T.layout site.old).names (option_map (λ s. s.now) expr.entry))
-        (board_state (D.shown board.old) (D.answers board.old))
-        (board_state (D.shown board.new) (D.answers board.new)) result }
+    ensures asks { IfOk result
+        (Asks (stream_ask (T.layout site.old).names (option_map (λ s. s.now) expr.entry))) }
     ensures stays { Stays T.layout T.home T.free site.old site.new }
 {
     match expr {
-        Some(text) => run_expression(alloc, rt, site, board, text.as_bytes(), gate),
+        Some(text) => expression_question(alloc, rt, site, text.as_bytes(), gate),
         None => {
-            let text = Text::of(alloc, "MissingParam stream expr")?;
-            Ok(Outcome::exception(alloc, text))
+            let outcome = faulted(alloc, "MissingParam stream expr")?;
+            Ok(Question::Nothing(outcome))
         }
     }
 }

@@ -8,6 +8,8 @@ mod exchange;
 mod expression;
 mod laws;
 mod outcome;
+mod prepared;
+mod question;
 mod refusal;
 mod request;
 mod response;

@@ -6,13 +6,15 @@ ghost use Rattle.json_text.specs.Updates.{update_in};
 ghost use Rattle.topic_book.specs.Fitness.{shards_of};
 ghost use Rattle.stream_handler.specs.Asks.{acted_ask, ask_of, handled_ask};
 ghost use Rattle.stream_handler.specs.Boards.{IsAsked, board_state};
+ghost use Rattle.stream_handler.specs.Questions.{Asks, CarriedTo};
 ghost use Rattle.stream_handler.specs.Refusals.{refusal};
 ghost use Rattle.stream_handler.specs.Requests.{CarriedWith, acted_course, handled, is_true, request_course, update_course};
 ghost use Rattle.root_runs.specs.Stays.{Stays};
 
 use crate::Outcome;
-use crate::action::act;
-use crate::expression::run_stream;
+use crate::action::action_question;
+use crate::expression::stream_question;
+use crate::question::{Question, ask};
 use crate::refusal::refusal_text;
 use crate::update::run_update;
 use daemon_board::Daemons;
@@ -33,27 +35,25 @@ fn is_true(value: Option<&str>) -> bool
     }
 }
 
-// What an action does at the board, or where there is none an expression.
-fn run_acted<T: Turns, D: Daemons, R: Threads + Sync, G: Gate>(
+// What an action asks of the board, or where there is none an expression, which is carried out at
+// the site.
+fn acted_question<T: Turns, R: Threads + Sync, G: Gate>(
     alloc: Global,
     rt: &R,
     site: &mut T,
-    board: &mut D,
     request: &Request,
     gate: &G,
-) -> Result<Outcome, Memory>
-    ensures course { CarriedWith (T.writer site.old) (T.writer site.new) (λ told.
+) -> Result<Question, Memory>
+    ensures course { CarriedTo (T.writer site.old) (T.writer site.new) (λ told.
         acted_course (T.layout site.old) told request.now.params
         (first_value (codes "action") request.now.params)) result }
-    ensures asked { IsAsked (acted_ask (T.layout site.old).names request.now.params
-        (first_value (codes "action") request.now.params))
-        (board_state (D.shown board.old) (D.answers board.old))
-        (board_state (D.shown board.new) (D.answers board.new)) result }
+    ensures asks { IfOk result (Asks (acted_ask (T.layout site.old).names request.now.params
+        (first_value (codes "action") request.now.params))) }
     ensures stays { Stays T.layout T.home T.free site.old site.new }
 {
     match request.param("action") {
-        Some(action) => act(alloc, board, action, request.param("id")),
-        None => run_stream(alloc, rt, site, board, request.param("expr"), gate),
+        Some(action) => action_question(alloc, action, request.param("id")),
+        None => stream_question(alloc, rt, site, request.param("expr"), gate),
     }
 }
 
@@ -76,26 +76,27 @@ fn run_updated<T: Turns>(alloc: Global, site: &mut T, request: &Request) -> Resu
     )
 }
 
-// What a request does at a collection that is there.
-fn handle<T: Turns, D: Daemons, R: Threads + Sync, G: Gate>(
+// What a request does at a collection that is there, and what it asks of the board.
+fn handled_question<T: Turns, R: Threads + Sync, G: Gate>(
     alloc: Global,
     rt: &R,
     site: &mut T,
-    board: &mut D,
     request: &Request,
     gate: &G,
-) -> Result<Outcome, Memory>
+) -> Result<Question, Memory>
     requires known { 0 < shards_of (T.layout site.old).names request.now.collection }
-    ensures course { CarriedWith (T.writer site.old) (T.writer site.new) (λ told.
+    ensures course { CarriedTo (T.writer site.old) (T.writer site.new) (λ told.
         handled (T.layout site.old) told request.now request.now.handler) result }
-    ensures asked { IsAsked (handled_ask (T.layout site.old).names request.now request.now.handler)
-        (board_state (D.shown board.old) (D.answers board.old))
-        (board_state (D.shown board.new) (D.answers board.new)) result }
+    ensures asks { IfOk result
+        (Asks (handled_ask (T.layout site.old).names request.now request.now.handler)) }
     ensures stays { Stays T.layout T.home T.free site.old site.new }
 {
     match request.handler {
-        Handler::Stream => run_acted(alloc, rt, site, board, request, gate),
-        Handler::Update => run_updated(alloc, site, request),
+        Handler::Stream => acted_question(alloc, rt, site, request, gate),
+        Handler::Update => {
+            let outcome = run_updated(alloc, site, request)?;
+            Ok(Question::Nothing(outcome))
+        }
     }
 }
 
@@ -107,9 +108,29 @@ fn unknown(alloc: Global) -> Result<Outcome, Memory>
     Ok(Outcome::Refused { code: 404, msg })
 }
 
+/// What a request does at the site, and what it asks of the board then.
+pub(crate) fn request_question<T: Turns, R: Threads + Sync, G: Gate>(
+    alloc: Global,
+    rt: &R,
+    site: &mut T,
+    request: &Request,
+    gate: &G,
+) -> Result<Question, Memory>
+    ensures course { CarriedTo (T.writer site.old) (T.writer site.new) (λ told.
+        request_course (T.layout site.old) told request.now) result }
+    ensures asks { IfOk result (Asks (ask_of (T.layout site.old).names request.now)) }
+    ensures stays { Stays T.layout T.home T.free site.old site.new }
+{
+    if shards_of(site.names(), request.collection.as_str()) == 0 {
+        let outcome = unknown(alloc)?;
+        return Ok(Question::Nothing(outcome));
+    }
+    handled_question(alloc, rt, site, request, gate)
+}
+
 /// What a request does at the site or asks of the board, and is answered (Solr Reference Guide,
 /// "Streaming Expressions", the `/stream` handler, and "Indexing with Update Handlers"; actions and
-/// texts of refusals own).
+/// texts of refusals own). The board is asked last: where memory is wanting it is as it was.
 pub fn run_request<T: Turns, D: Daemons, R: Threads + Sync, G: Gate>(
     alloc: Global,
     rt: &R,
@@ -125,8 +146,6 @@ pub fn run_request<T: Turns, D: Daemons, R: Threads + Sync, G: Gate>(
         (board_state (D.shown board.new) (D.answers board.new)) result }
     ensures stays { Stays T.layout T.home T.free site.old site.new }
 {
-    if shards_of(site.names(), request.collection.as_str()) == 0 {
-        return unknown(alloc);
-    }
-    handle(alloc, rt, site, board, request, gate)
+    let question = request_question(alloc, rt, site, request, gate)?;
+    ask(alloc, board, question)
 }

@@ -1,42 +1,31 @@
-use Rattle.std.proofs.Common.{◌≡◌, ◌<◌, ap, sym, ◌∙◌, arith}
-use Rattle.topic_book.specs.Fitness.{shards_of}
-use Rattle.stream_handler.proofs.CarriedLemmas.{unknown_told}
-use Rattle.stream_handler.proofs.RootLemmas.{known_asked, known_carried, unknown_asked}
+use Rattle.std.proofs.lemmas.Result.{err_from_is_err_and}
+use Rattle.stream_handler.specs.Asks.{ask_of}
+use Rattle.stream_handler.specs.Requests.{request_course}
+use Rattle.stream_handler.proofs.BoardLemmas.{asked_by, unasked}
+use Rattle.stream_handler.proofs.CarriedLemmas.{carried_before, told_answer}
 use Rattle.stream_handler.proofs.request.run_request.Goals as goal
 
-pub returns-then-shards_of-eq0-clause-course : goal.returns-then-shards_of-eq0-clause-course
-returns-then-shards_of-eq0-clause-course g c =
-    let r = c.args.request.now in
-    let none = ap (λ names. shards_of names r.collection) (sym c.names.ensures.names)
-    ∙ ap (shards_of c.names.result.now) (sym c.as_str.ensures)
-    ∙ sym c.shards_of.ensures ∙ c.if-shards_of-eq0.true in
-    unknown_told (g.T.Turns.writer c.args.site.now) (g.T.Turns.layout c.args.site.now) r
-    c.unknown.result none c.unknown.ensures
+pub returns-in_err-question-clause-course : goal.returns-in_err-question-clause-course
+returns-in_err-question-clause-course g c =
+    let l = g.T.Turns.layout c.args.site.now in
+    let r = err_from_is_err_and c.from_residual.result c.from_residual.ensures.1 in
+    carried_before _ _ (λ told. request_course l told c.args.request.now)
+    c.from_residual.result r.0 r.1 c.in_err-question.ensures.course
 
-pub returns-then-shards_of-eq0-clause-asked : goal.returns-then-shards_of-eq0-clause-asked
-returns-then-shards_of-eq0-clause-asked g c =
-    let r = c.args.request.now in
-    let none = ap (λ names. shards_of names r.collection) (sym c.names.ensures.names)
-    ∙ ap (shards_of c.names.result.now) (sym c.as_str.ensures)
-    ∙ sym c.shards_of.ensures ∙ c.if-shards_of-eq0.true in
-    unknown_asked (g.T.Turns.layout c.args.site.now) r _ c.unknown.result none
+pub returns-in_err-question-clause-asked : goal.returns-in_err-question-clause-asked
+returns-in_err-question-clause-asked g c =
+    let l = g.T.Turns.layout c.args.site.now in
+    let r = err_from_is_err_and c.from_residual.result c.from_residual.ensures.1 in
+    unasked (ask_of l.names c.args.request.now) _ c.from_residual.result r.0 r.1
 
 pub returns-clause-course : goal.returns-clause-course
 returns-clause-course g c =
     let l = g.T.Turns.layout c.args.site.now in
-    let r = c.args.request.now in
-    let is : shards_of l.names r.collection ≡ c.shards_of.result =
-    ap (λ names. shards_of names r.collection) (sym c.names.ensures.names)
-    ∙ ap (shards_of c.names.result.now) (sym c.as_str.ensures) ∙ sym c.shards_of.ensures in
-    let known : 0 < shards_of l.names r.collection = omega (arith, is, c.if-shards_of-eq0.false) in
-    known_carried l r known _ _ c.handle.result c.handle.ensures.course
+    told_answer _ _ (λ told. request_course l told c.args.request.now)
+    c.in_ok-question.question _ _ c.ask.result c.in_ok-question.ensures.course c.ask.ensures
 
 pub returns-clause-asked : goal.returns-clause-asked
 returns-clause-asked g c =
     let l = g.T.Turns.layout c.args.site.now in
-    let r = c.args.request.now in
-    let is : shards_of l.names r.collection ≡ c.shards_of.result =
-    ap (λ names. shards_of names r.collection) (sym c.names.ensures.names)
-    ∙ ap (shards_of c.names.result.now) (sym c.as_str.ensures) ∙ sym c.shards_of.ensures in
-    let known : 0 < shards_of l.names r.collection = omega (arith, is, c.if-shards_of-eq0.false) in
-    known_asked l r known _ _ c.handle.result c.handle.ensures.asked
+    asked_by (ask_of l.names c.args.request.now) c.in_ok-question.question
+    _ _ c.ask.result c.in_ok-question.ensures.asks c.ask.ensures

@@ -1,7 +1,7 @@
 use Rattle.std.proofs.Common.{refl}
 use Rattle.std.proofs.lemmas.Result.{err_from_is_err_and}
 use Rattle.stream_handler.proofs.BoardLemmas.{list_broken}
-use Rattle.stream_handler.proofs.action.list.Goals as goal
+use Rattle.stream_handler.proofs.question.list.Goals as goal
 
 pub returns-in_err-docs : goal.returns-in_err-docs
 returns-in_err-docs g c =

@@ -1,0 +1,131 @@
+-- What a question may be answered, all of which is made before the board is asked (own).
+use Rattle.std.specs.Prelude.{◌≡◌, ◌++◌, Bool, Result, Ok, Err, codes}
+use Rattle.tuple_values.specs.Document.{ByteList}
+use Rattle.tuple_values.specs.declared.memory.Memory.{Memory}
+use Rattle.expr_check.specs.declared.checked.Checked.{Checked}
+use Rattle.daemon_board.specs.Answers.{after_start}
+use Rattle.daemon_board.specs.Calls.{Starts, WhereTold}
+use Rattle.daemon_board.specs.Daemons.{fresh}
+use Rattle.daemon_board.specs.declared.fault.BoardFault.{BoardFault}
+use Rattle.daemon_board.specs.declared.fault.BoardFault.TheVariants.{DaemonTaken, UnknownDaemon, BoardFull, OutOfMemory}
+use Rattle.stream_handler.specs.Boards.{BoardState, IsListed, Makes, Says, after_change, change_word, op_done}
+use Rattle.stream_handler.specs.Outcomes.{exception, reply_of}
+use Rattle.stream_handler.specs.Questions.{MayTell, question_ask}
+use Rattle.stream_handler.specs.declared.action.Change.{Change}
+use Rattle.stream_handler.specs.declared.outcome.Outcome.{Outcome}
+use Rattle.stream_handler.specs.declared.prepared.Prepared.{Prepared}
+use Rattle.stream_handler.specs.declared.prepared.Prepared.TheVariants as prepared
+use Rattle.stream_handler.specs.declared.prepared.StartTold.{StartTold}
+use Rattle.stream_handler.specs.declared.question.Question.{Question}
+use Rattle.stream_handler.specs.declared.question.Question.TheVariants as question
+use Rattle.stream_handler.specs.declared.starting.NewDaemon.{NewDaemon}
+
+-- a change that was made is told so, and a daemon that isn't there
+abbrev pub prepared_change : Change → ByteList → Prepared Outcome
+prepared_change what id =
+    prepared.Change what id (op_done (change_word what) id)
+    (exception (codes "UnknownDaemon " ++ id))
+
+-- what a start may be told
+abbrev pub start_told : ByteList → StartTold Outcome
+start_told id =
+    record {
+      started = op_done (codes "started ") id;
+      taken = exception (codes "DaemonTaken " ++ id);
+      full = exception (codes "BoardFull");
+    }
+
+abbrev pub prepared_start : NewDaemon → Checked → Prepared Outcome
+prepared_start d checked = prepared.Start d checked (start_told d.id)
+
+-- all that a question may be answered; a board that is only listed is listed already, and as it was
+abbrev pub IsPrepared : Question → BoardState → Prepared Outcome → Type 0
+IsPrepared (question.Nothing o) b p = p ≡ prepared.Told o
+IsPrepared question.List b p = (o : Outcome) × IsListed b b o × (p ≡ prepared.Told o)
+IsPrepared (question.Change what id) b p = p ≡ prepared_change what id
+IsPrepared (question.Start d checked) b p = p ≡ prepared_start d checked
+
+-- the responses that tell a start
+abbrev pub start_replies : Bool → StartTold Outcome → StartTold ByteList
+start_replies closes told =
+    record {
+      started = reply_of closes 0 told.started;
+      taken = reply_of closes 0 told.taken;
+      full = reply_of closes 0 told.full;
+    }
+
+-- the response to each answer
+abbrev pub replied : Bool → Prepared Outcome → Prepared ByteList
+replied closes (prepared.Told o) = prepared.Told (reply_of closes 0 o)
+replied closes (prepared.Change what id made unknown) =
+    prepared.Change what id (reply_of closes 0 made) (reply_of closes 0 unknown)
+replied closes (prepared.Start d checked told) =
+    prepared.Start d checked (start_replies closes told)
+
+-- what is told of the answer to a change
+abbrev pub picked : {A : Type 0} → A → A → Result (Unit {0}) BoardFault → A
+picked made unknown (Ok u) = made
+picked made unknown (Err fault) = unknown
+
+-- the board was asked for a change, and this was picked by its answer
+pub record IsChangeChosen {A : Type 0} (what : Change) (id : ByteList) (made unknown : A)
+    (before after : BoardState) (x : A) : Type 0 where
+  pub answer : Result (Unit {0}) BoardFault
+  pub picks : x ≡ picked made unknown answer
+  pub told : WhereTold before.shown after.shown (Makes what id answer)
+  pub counted : after.answers ≡ after_change what answer before.answers
+
+-- what is told of the answer to a start, which isn't want of memory
+abbrev pub Picks : {A : Type 0} → StartTold A → Result (Unit {0}) BoardFault → A → Type 0
+Picks told (Ok u) x = x ≡ told.started
+Picks told (Err (DaemonTaken taken)) x = x ≡ told.taken
+Picks told (Err UnknownDaemon) x = ⊥
+Picks told (Err BoardFull) x = x ≡ told.full
+Picks told (Err OutOfMemory) x = ⊥
+
+-- an answer that puts nothing on a board and isn't told
+abbrev pub IsUntold : Result (Unit {0}) BoardFault → Type 0
+IsUntold (Ok u) = ⊥
+IsUntold (Err (DaemonTaken taken)) = ⊥
+IsUntold (Err UnknownDaemon) = Unit {0}
+IsUntold (Err BoardFull) = ⊥
+IsUntold (Err OutOfMemory) = Unit {0}
+
+-- what is told of the answer to a start, unless memory was wanting
+abbrev pub IsStartPicked : {A : Type 0} → StartTold A → Result (Unit {0}) BoardFault
+    → Result A Memory → Type 0
+IsStartPicked told answer (Ok x) = Picks told answer x
+IsStartPicked told answer (Err memory) = IsUntold answer
+
+-- the board was asked for a start, and this was picked by its answer
+pub record IsStartChosen {A : Type 0} (d : NewDaemon) (checked : Checked) (told : StartTold A)
+    (before after : BoardState) (x : A) : Type 0 where
+  pub answer : Result (Unit {0}) BoardFault
+  pub picks : Picks told answer x
+  pub said : WhereTold before.shown after.shown
+      (λ b c. Starts d.id (fresh b checked d.interval d.terminate 0) answer b c)
+  pub counted : after.answers ≡ after_start answer before.answers
+
+-- the same, unless memory was wanting: then the board is as it was
+abbrev pub IsStartAsked : {A : Type 0} → NewDaemon → Checked → StartTold A → BoardState → BoardState
+    → Result A Memory → Type 0
+IsStartAsked d checked told before after (Ok x) = IsStartChosen d checked told before after x
+IsStartAsked d checked told before after (Err memory) = after ≡ before
+
+-- the board was asked, and this was picked by its answer
+abbrev pub Chooses : {A : Type 0} → Prepared A → BoardState → BoardState → A → Type 0
+Chooses (prepared.Told a) before after x = (after ≡ before) × (x ≡ a)
+Chooses (prepared.Change what id made unknown) before after x =
+    IsChangeChosen what id made unknown before after x
+Chooses (prepared.Start d checked told) before after x =
+    IsStartChosen d checked told before after x
+
+-- the same, unless memory was wanting: then the board is as it was
+abbrev pub IsChosen : {A : Type 0} → Prepared A → BoardState → BoardState → Result A Memory → Type 0
+IsChosen p before after (Ok x) = Chooses p before after x
+IsChosen p before after (Err memory) = after ≡ before
+
+-- the board was asked a question and told this, unless memory was wanting: then it is as it was
+abbrev pub IsAnswerTo : Question → BoardState → BoardState → Result Outcome Memory → Type 0
+IsAnswerTo q before after (Ok o) = MayTell q o × Says (question_ask q) before after o
+IsAnswerTo q before after (Err memory) = after ≡ before
