@@ -29,6 +29,7 @@ script_none names all old new app = record {
   rest = [];
   written = app;
   begins = refl;
+  lawful = λ upto lt. absurd (omega (arith, lt));
 }
 
 -- all is written
@@ -46,6 +47,7 @@ script_run names all left after old new r = record {
   rest = [];
   written = r.written;
   begins = sym (append-nil (script_text names r.messages after));
+  lawful = λ upto lt. r.lawful upto;
 }
 
 -- all that the bytes ask for is written
@@ -62,6 +64,7 @@ script_read names all left old new r = record {
   rest = [];
   written = r.written;
   begins = sym (append-nil (script_text names r.messages r.after));
+  lawful = λ upto lt. r.lawful upto;
 }
 
 -- memory was wanting before anything was read

@@ -19,12 +19,12 @@ use Rattle.daemon_board.specs.Boards.{Told}
 use Rattle.daemon_board.specs.Calls.{Lists, MakesOf, Starts, WhereTold}
 use Rattle.daemon_board.specs.Daemons.{Entry, Shown, change_first, fresh, has_id, is_full, is_there, resumed, stopped, with_daemons, without_first}
 use Rattle.daemon_board.specs.Rising.{IsKept}
-use Rattle.daemon_board.specs.Tickets.{Tickets, drop_ticket, is_full_of, put_ticket, resume_ticket, stop_ticket, ticket_is_there, tickets_of}
+use Rattle.daemon_board.specs.Tickets.{Tickets, drop_ticket, put_ticket, resume_ticket, stop_ticket, ticket_is_there, tickets_of}
 use Rattle.daemon_board.specs.declared.fault.BoardFault.{BoardFault}
 use Rattle.daemon_board.specs.declared.fault.BoardFault.TheVariants.{DaemonTaken, UnknownDaemon, BoardFull, OutOfMemory}
 use Rattle.daemon_board.proofs.RisingLemmas.{kills-kept, lists-kept, resumes-kept, starts-kept, stops-kept}
 use Rattle.daemon_board.proofs.TicketLemmas.{is_full_of-tickets_of, listed_tickets-tickets_of, ticket_is_there-tickets_of, tickets_of-put_on, tickets_of-removed, tickets_of-resumed, tickets_of-stopped}
-use Rattle.stream_handler.specs.Asks.{acted_ask, action_read, ask_in, ask_of, change_ask, change_of, change_read, daemon_of, expression_ask, handled_ask, root_ask, stream_ask}
+use Rattle.stream_handler.specs.Asks.{acted_ask, ask_in, ask_of, change_of, change_read, daemon_of, expression_ask, handled_ask, root_ask, stream_ask}
 use Rattle.stream_handler.specs.Boards.{Ask, BoardState, IsStartTold, Makes, Says, change_told, change_word, nothing, lists, stops, resumes, kills, starts, op_done}
 use Rattle.stream_handler.specs.Outcomes.{exception}
 use Rattle.stream_handler.specs.Refusals.{refusal}

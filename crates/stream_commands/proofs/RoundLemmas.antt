@@ -1,7 +1,5 @@
 -- What messages are answered between which daemons run, where one writer is alone.
-use Rattle.std.proofs.Common.{◌≡◌, ℕ, List, [], ◌∷◌, ◌++◌, refl, sym, ap, subst, ◌∙◌, append_assoc, append-nil}
-use Rattle.std.proofs.lemmas.Grind.{flat_map-append}
-use Rattle.std.proofs.lemmas.List.{map-append}
+use Rattle.std.proofs.Common.{◌≡◌, ℕ, zero, suc, List, [], ◌∷◌, ◌++◌, take, refl, sym, ap, subst, ◌∙◌, append_assoc}
 use Rattle.tuple_values.specs.Document.{ByteList}
 use Rattle.exchange_rules.specs.Accesses.{Access}
 use Rattle.exchange_rules.specs.Cells.{Log}
@@ -9,22 +7,24 @@ use Rattle.exchange_rules.specs.Courses.{Course, ends, run_alone}
 use Rattle.exchange_rules.specs.Following.{Follows, Grows, Writer, cleared, counts}
 use Rattle.exchange_rules.specs.Own.{IsAlone}
 use Rattle.exchange_rules.specs.Rows.{Layout}
-use Rattle.exchange_rules.proofs.AloneLemmas.{follows_alone, shown}
+use Rattle.exchange_rules.proofs.AloneLemmas.{follows_alone, shown, shown_old}
 use Rattle.exchange_rules.proofs.FollowLemmas.{follows_still}
 use Rattle.exchange_rules.proofs.GrowthLemmas.{grows_join, grows_same}
+use Rattle.site_laws.specs.SiteCells.{IsLawful}
 use Rattle.form_request.specs.declared.reading.Message.{Message}
 use Rattle.daemon_board.specs.Boards.{Told}
 use Rattle.daemon_board.specs.Tickets.{Ticket, Tickets, tickets_of, with_tickets}
 use Rattle.daemon_steps.specs.Steps.{steps_course}
 use Rattle.daemon_steps.specs.Stepped.{IsStepped}
 use Rattle.stream_handler.specs.Asks.{ask_of}
-use Rattle.stream_handler.specs.Exchanges.{Answer, IsSound, messages_of, replies_of, reply_to}
+use Rattle.stream_handler.specs.Exchanges.{Answer, messages_of, replies_of, reply_to}
 use Rattle.stream_handler.specs.Outcomes.{reply_of}
 use Rattle.stream_handler.specs.Passing.{said}
 use Rattle.stream_handler.specs.Requests.{request_course}
 use Rattle.stream_handler.specs.Sessions.{Exchanged}
 use Rattle.stream_handler.specs.declared.outcome.Outcome.{Outcome}
-use Rattle.stream_commands.specs.Scripts.{after_daemons, after_message, answered_alone, asked_alone, replies_alone}
+use Rattle.stream_commands.specs.Rounds.{after_daemons, after_message, after_messages, answered_alone, asked_alone}
+use Rattle.stream_commands.specs.Scripts.{replies_alone}
 use Rattle.stream_commands.specs.Serving.{AreRounds, IsAnsweredTo, IsRound}
 use Rattle.stream_commands.proofs.BoardLemmas.{course_told, said_alone}
 
@@ -151,6 +151,24 @@ module _ (l : Layout) (seen : List Log) (alone : (had : List ℕ) → IsAlone 1 
       ∙ (ap (after_daemons l (known r.mid)) (sym s.tickets)
       ∙ stepped_alone r.mid v (tickets_of r.asked.shown) (tickets_of c.shown) (answered.same ∙ one)
       grown r.stepped)
+
+  -- the law holds of what each first part of these messages leaves
+  pub rounds_lawful : (w v : Writer) (b c : Told) (answers : List Answer) → w.me ≡ 1
+      → Grows v.seen seen → AreRounds l w b answers v c → IsLawful l.names (known w) → (upto : ℕ)
+      → IsLawful l.names
+      (after_messages l (known w) (tickets_of b.shown) (take upto (messages_of answers))).0
+  rounds_lawful w v b c [] one grown r law zero = law
+  rounds_lawful w v b c [] one grown r law (suc n) = law
+  rounds_lawful w v b c (a ∷ answers) one grown r law zero = law
+  rounds_lawful w v b c (a ∷ answers) one grown r law (suc n) =
+      let first = round_grown l w r.0 b r.1 a r.2 in
+      let later = rounds_grown l r.0 v r.1 c answers r.3 in
+      let seen_on = grows_join r.0.seen v.seen seen later.grown grown in
+      subst (λ (x : List Log × Tickets). IsLawful l.names
+      (after_messages l x.0 x.1 (take n (messages_of answers))).0)
+      (sym (round_alone w r.0 b r.1 a one seen_on r.2))
+      (rounds_lawful r.0 v r.1 c answers (first.same ∙ one) grown r.3
+      (subst (IsLawful l.names) (sym (shown_old r.0.seen seen seen_on)) r.2.lawful) n)
 
   -- the reply to a message, at the time 0
   abbrev pub reply_alone : Message → Outcome → ByteList

@@ -1,8 +1,8 @@
 -- What a script has written, by what was served of its input.
-use Rattle.std.proofs.Common.{◌≡◌, ◌≢◌, ◌⊎◌, ℕ, false, List, [], ◌∷◌, ◌++◌, refl, sym, ap, ◌∙◌, subst, append_assoc, append-nil, inl, inr}
+use Rattle.std.proofs.Common.{◌≡◌, ◌≢◌, ◌⊎◌, ℕ, false, List, [], ◌∷◌, ◌++◌, take, refl, sym, ap, ◌∙◌, subst, arith, append_assoc, append-nil, length-append, inl, inr}
 use Rattle.std.specs.Prelude.{Option, Some, None}
 use Rattle.std.proofs.lemmas.Grind.{flat_map-append}
-use Rattle.std.proofs.lemmas.List.{map-append}
+use Rattle.std.proofs.lemmas.List.{map-append, take-append-le}
 use Rattle.tuple_values.specs.Document.{ByteList}
 use Rattle.tuple_values.specs.declared.names.NameShards.{NameShards}
 use Rattle.io_edge.specs.Edge.{Appends, Rose}
@@ -13,6 +13,7 @@ use Rattle.exchange_rules.specs.Own.{IsAlone}
 use Rattle.exchange_rules.specs.Rows.{Layout}
 use Rattle.exchange_rules.proofs.AloneLemmas.{shown_old}
 use Rattle.exchange_rules.proofs.GrowthLemmas.{grows_join, grows_same}
+use Rattle.site_laws.specs.SiteCells.{IsLawful}
 use Rattle.form_request.specs.Readers.{HeldReads}
 use Rattle.form_request.specs.Readings.{Reads, nothing}
 use Rattle.form_request.specs.Streams.{Held, begun, fed, fed_by}
@@ -22,6 +23,7 @@ use Rattle.form_request.specs.declared.reading.After.{After}
 use Rattle.form_request.specs.declared.reading.After.TheVariants.{Refusal, Rest}
 use Rattle.form_request.specs.declared.reading.Message.{Message}
 use Rattle.stream_site.specs.Plains.{Plain, empty_site, layout_of, writer_of}
+use Rattle.stream_site.proofs.PlainLawLemmas.{new_lawful}
 use Rattle.daemon_board.specs.Boards.{Told, empty_board}
 use Rattle.daemon_board.specs.Tickets.{tickets_of}
 use Rattle.stream_handler.specs.Exchanges.{Answer, BoardsAlong, messages_of, replies_of, reply_to}
@@ -39,9 +41,10 @@ use Rattle.stream_handler.proofs.WireLemmas.{appends_join, rose_since}
 use Rattle.stream_commands.specs.Boards.{no_tickets}
 use Rattle.stream_commands.specs.Endings.{HasRisen, IsEndingOf, Writes, WritesFor}
 use Rattle.stream_commands.specs.Replies.{layout, logs_at_start}
-use Rattle.stream_commands.specs.Scripts.{IsScriptBegun, IsScriptRead, IsScriptRun, answered_alone, replies_alone, replies_over, tail_text}
+use Rattle.stream_commands.specs.Rounds.{AreLawful, AreLawfulBefore, after_messages, answered_alone, logs_after}
+use Rattle.stream_commands.specs.Scripts.{IsScriptBegun, IsScriptInPart, IsScriptRead, IsScriptRun, replies_alone, replies_over, tail_text}
 use Rattle.stream_commands.specs.Serving.{HasServed, IsAnsweredTo, IsAtRest, IsCarriedOn, IsCutInRuns, StopsBy, ending_of, state_of}
-use Rattle.stream_commands.proofs.RoundLemmas.{HasGrown, answer_alone, answered_grown, cleared_grown, grown_join, known, one_reply, replies_behind, reply_alone, rounds_grown}
+use Rattle.stream_commands.proofs.RoundLemmas.{HasGrown, answer_alone, answered_grown, cleared_grown, grown_join, known, one_reply, replies_behind, reply_alone, rounds_grown, rounds_lawful}
 use Rattle.stream_commands.proofs.ServingLemmas.{one_answered}
 
 -- all that came is all that there was
@@ -68,9 +71,18 @@ stopped_reads : (names : List NameShards) (s : Stage) (bytes more : List ℕ) (s
 stopped_reads names s bytes more status e =
     subst (λ s. HeldReads names false (fed_by s bytes more) [] (Refusal status)) (sym e) (refl, refl)
 
+-- where the law holds after some messages, it held before each of them and of one more
+before_last : (names : List NameShards) (messages : List Message) (m : Message)
+    → AreLawful names messages → AreLawfulBefore names (messages ++ m ∷ [])
+before_last names messages m lawful upto lt =
+    let long = length-append messages (m ∷ []) in
+    subst (λ ms. IsLawful names (logs_after names ms))
+    (sym (take-append-le upto messages (m ∷ []) (omega (arith, lt, long)))) (lawful upto)
+
 module _ (names : List NameShards) (all : List ℕ) (reads : ℕ) (written : Option (List ℕ)) (writes : ℕ)
     (new : Wire) (answers : List Answer)
-    (replies : replies_of answers ≡ replies_over names (messages_of answers)) where
+    (replies : replies_of answers ≡ replies_over names (messages_of answers))
+    (before : AreLawfulBefore names (messages_of answers)) where
   abbrev pub old : Wire
   old = wire begun (Some all) reads written writes (state_of empty_board)
 
@@ -92,48 +104,55 @@ module _ (names : List NameShards) (all : List ℕ) (reads : ℕ) (written : Opt
       (subst (λ ms. Reads names (p.bytes ++ []) ms after) (append-nil (messages_of answers))
       (p.passes.reads [] [] after (stays [])))
 
-  run_of : (after : After) (read : List ℕ) → Came (Some all) new.left read
+  run_of : (after : After) (read : List ℕ) → AreLawful names (messages_of answers)
+      → Came (Some all) new.left read
       → Reads names all (messages_of answers) after → Reads names read (messages_of answers) after
       → Appends written new.written (replies_of answers ++ tail_text after)
       → IsScriptRun names all new.left after written new.written
-  run_of after read came whole part app = record {
+  run_of after read lawful came whole part app = record {
     messages = messages_of answers;
     holds = whole;
     read = read;
     came = came;
     reads = part;
     written = subst (λ t. Appends written new.written (t ++ tail_text after)) replies app;
+    lawful = lawful;
   }
 
   -- a stream that stays where it is
-  run_past : (after : After) → (p : Passed names old new (messages_of answers) false)
+  run_past : (after : After) → AreLawful names (messages_of answers)
+      → (p : Passed names old new (messages_of answers) false)
       → ((more : List ℕ) → HeldReads names false (fed new.held more) [] after)
       → Appends written new.written (replies_of answers ++ tail_text after)
       → IsScriptRun names all new.left after written new.written
-  run_past after p stays app =
-      run_of after p.bytes p.came (past after p stays) (here after p stays) app
+  run_past after lawful p stays app =
+      run_of after p.bytes lawful p.came (past after p stays) (here after p stays) app
 
-  unfinished : (held : ℕ) → IsEmptied new.left → (q : IsUnfinished names old new answers held)
+  unfinished : (held : ℕ) → AreLawful names (messages_of answers) → IsEmptied new.left
+      → (q : IsUnfinished names old new answers held)
       → IsScriptRun names all new.left (Rest held q.asks) written new.written
-  unfinished held empty q =
-      run_of (Rest held q.asks) q.stands.bytes q.stands.came
+  unfinished held lawful empty q =
+      run_of (Rest held q.asks) q.stands.bytes lawful q.stands.came
       (subst (λ b. Reads names b (messages_of answers) (Rest held q.asks))
       (whole_came all q.stands.bytes new.left q.stands.came empty) q.stands.reads) q.stands.reads
       q.written
 
   -- where it was not read to its end
-  read_part : (held : ℕ) → IsUnfinished names old new answers held
+  read_part : (held : ℕ) → AreLawful names (messages_of answers)
+      → IsUnfinished names old new answers held
       → IsScriptRead names all new.left written new.written
-  read_part held q = record {
+  read_part held lawful q = record {
     messages = messages_of answers;
     after = Rest held q.asks;
     read = q.stands.bytes;
     came = q.stands.came;
     reads = q.stands.reads;
     written = subst (λ t. Appends written new.written (t ++ said q.asks)) replies q.written;
+    lawful = lawful;
   }
 
-  stuck_part : IsStuck names old new answers → IsScriptBegun names all new.left written new.written
+  abbrev stuck_part : IsStuck names old new answers
+      → IsScriptBegun names all new.left written new.written
   stuck_part q = record {
     read = q.passed.bytes;
     lost = [];
@@ -146,6 +165,7 @@ module _ (names : List NameShards) (all : List ℕ) (reads : ℕ) (written : Opt
     written = q.written;
     begins = ap (λ t. t ++ front_text new.held.stage q.told) (sym replies)
         ∙ (ap (λ t. replies_of answers ++ t) q.is ∙ sym (append_assoc (replies_of answers) q.part q.rest));
+    lawful = before;
   }
 
   lost_part : IsLost names old new answers → IsScriptBegun names all new.left written new.written
@@ -164,6 +184,7 @@ module _ (names : List NameShards) (all : List ℕ) (reads : ℕ) (written : Opt
         begins = ap (λ t. t ++ front_text new.held.stage q.told) (sym replies)
             ∙ (ap (λ t. replies_of answers ++ t) more.1
             ∙ sym (append_assoc (replies_of answers) (said q.told) more.0));
+        lawful = before;
       }
 
   -- the replies end with the last one, of which a part is written
@@ -176,7 +197,8 @@ module _ (names : List NameShards) (all : List ℕ) (reads : ℕ) (written : Opt
       ∙ (ap (λ t. replies_of q.before ++ t) (append-nil (reply_to q.last) ∙ q.is)
       ∙ sym (append_assoc (replies_of q.before) q.part q.rest))))
 
-  cut_part : IsCutOff names old new answers → IsScriptBegun names all new.left written new.written
+  abbrev cut_part : IsCutOff names old new answers
+      → IsScriptBegun names all new.left written new.written
   cut_part q =
       let text = front_text new.held.stage false in
       record {
@@ -191,25 +213,28 @@ module _ (names : List NameShards) (all : List ℕ) (reads : ℕ) (written : Opt
         written = q.written;
         begins = ap (λ t. t ++ text) (last_reply q)
             ∙ append_assoc (replies_of q.before ++ q.part) q.rest text;
+        lawful = before;
       }
 
   broken_part : IsStuck names old new answers ⊎ IsCutOff names old new answers
-      → IsScriptBegun names all new.left written new.written
-  broken_part (inl k) = stuck_part k
-  broken_part (inr k) = cut_part k
+      → IsScriptInPart names all new.left written new.written
+  broken_part (inl k) = (stuck_part k, refl)
+  broken_part (inr k) = (cut_part k, refl)
 
   -- how a script ended that wasn't closed, by what was served
-  pub wire_writes : (e : End) → e ≢ end.Closed → WireEnds names old new answers e
+  pub wire_writes : (e : End) → e ≢ end.Closed → AreLawful names (messages_of answers)
+      → WireEnds names old new answers e
       → WritesFor (ending_of e) (Some (Script names)) all new.left written new.written
-  wire_writes end.Ended other q = (q.1.asks, unfinished 0 q.0 q.1)
-  wire_writes end.Closed other q = absurd (other refl)
-  wire_writes (end.Cut held) other q = (held, q.2.asks, q.1, unfinished held q.0 q.2)
-  wire_writes (end.Refused status) other q =
-      run_past (Refusal status) q.0
+  wire_writes end.Ended other lawful q = (q.1.asks, unfinished 0 lawful q.0 q.1)
+  wire_writes end.Closed other lawful q = absurd (other refl)
+  wire_writes (end.Cut held) other lawful q =
+      (held, q.2.asks, q.1, unfinished held lawful q.0 q.2)
+  wire_writes (end.Refused status) other lawful q =
+      run_past (Refusal status) lawful q.0
       (λ more. stopped_reads names new.held.stage new.held.bytes more status q.1) q.2
-  wire_writes end.ReadFault other q = read_part q.1.0 q.1.1
-  wire_writes end.WriteFault other q = broken_part q.1
-  wire_writes end.OutOfMemory other q = lost_part q
+  wire_writes end.ReadFault other lawful q = read_part q.1.0 lawful q.1.1
+  wire_writes end.WriteFault other lawful q = broken_part q.1
+  wire_writes end.OutOfMemory other lawful q = lost_part q
 
   -- a script that was served to the end of a message, and no further
   pub between_part : Passed names old new (messages_of answers) false
@@ -228,24 +253,27 @@ module _ (names : List NameShards) (all : List ℕ) (reads : ℕ) (written : Opt
         rest = text;
         written = app;
         begins = ap (λ t. t ++ text) (sym replies);
+        lawful = before;
       }
 
   -- one whose last message closes
-  pub closed_run : new.held.stage ≡ stage.Closed → Passed names old new (messages_of answers) false
+  pub closed_run : AreLawful names (messages_of answers) → new.held.stage ≡ stage.Closed
+      → Passed names old new (messages_of answers) false
       → Appends written new.written (replies_of answers)
       → IsScriptRun names all new.left nothing written new.written
-  closed_run closed p app =
-      run_past nothing p (λ more. closed_reads names new.held.stage new.held.bytes more closed)
+  closed_run lawful closed p app =
+      run_past nothing lawful p
+      (λ more. closed_reads names new.held.stage new.held.bytes more closed)
       (subst (λ t. Appends written new.written t) (sym (append-nil (replies_of answers))) app)
 
   -- where memory was wanting inside a request
-  pub begun_part : (m : Message) (reply : ByteList)
+  pub begun_part : (m : Message) (reply : ByteList) → AreLawful names (messages_of answers)
       → replies_over names (messages_of answers ++ m ∷ [])
       ≡ replies_of answers ++ (said m.asks ++ reply)
       → Passed names old new (messages_of answers ++ m ∷ []) false
       → Appends written new.written (replies_of answers ++ said m.asks)
       → IsScriptBegun names all new.left written new.written
-  begun_part m reply more p app =
+  begun_part m reply lawful more p app =
       let text = front_text new.held.stage false in
       record {
         read = p.bytes;
@@ -260,6 +288,7 @@ module _ (names : List NameShards) (all : List ℕ) (reads : ℕ) (written : Opt
         begins = ap (λ t. t ++ text)
             (more ∙ sym (append_assoc (replies_of answers) (said m.asks) reply))
             ∙ append_assoc (replies_of answers ++ said m.asks) reply text;
+        lawful = before_last names (messages_of answers) m lawful;
       }
 
 -- a script over a new site and a new board, where one writer is alone
@@ -302,6 +331,27 @@ module _ (names : List NameShards) (all : List ℕ) (reads : ℕ) (written : Opt
         ∙ (sym (behind [])
         ∙ ap (replies_over names) (append-nil (messages_of answers)))
 
+    -- the law holds after each of these messages
+    lawful_here : AreLawful names (messages_of answers)
+    lawful_here upto =
+        let same = shown_old (logs_at_start names) v.seen
+        (grows_join (logs_at_start names) w.seen v.seen since.grown grown.grown) in
+        subst (λ logs. IsLawful names
+        (after_messages (layout names) logs no_tickets (take upto (messages_of answers))).0) same
+        (rounds_lawful (layout names) v.seen alone starter w empty_board b answers refl grown.grown
+        p.rounds (subst (IsLawful names) (sym same) (new_lawful names)) upto)
+
+    -- it held before each of them
+    before_here : AreLawfulBefore names (messages_of answers)
+    before_here upto lt = lawful_here upto
+
+    -- and of one more
+    before_more : (a : Answer) → AreLawfulBefore names (messages_of (answers ++ a ∷ []))
+    before_more a =
+        subst (AreLawfulBefore names)
+        (sym (map-append (λ (x : Answer). x.message) answers (a ∷ [])))
+        (before_last names (messages_of answers) a.message lawful_here)
+
     -- one more message was answered
     replies_more : (u : Writer) (c : Told) (a : Answer) → HasGrown u v
         → IsAnsweredTo (layout names) w u b c a
@@ -333,16 +383,18 @@ module _ (names : List NameShards) (all : List ℕ) (reads : ℕ) (written : Opt
         by : ((e ≡ end.Closed) × (new.held.stage ≡ stage.Closed)) ⊎ (e ≡ end.OutOfMemory) → Wrote e
         by (inl c) =
             let run =
-            closed_run names all reads written writes new answers replies_here c.1 passed app in
+            closed_run names all reads written writes new answers replies_here before_here
+            lawful_here c.1 passed app in
             subst Wrote (sym c.0) (false, run)
         by (inr is) = subst Wrote (sym is)
-            (between_part names all reads written writes new answers replies_here passed app)
+            (between_part names all reads written writes new answers replies_here before_here
+            passed app)
 
     -- it was over before a message was whole
     ended : (e : End) → e ≢ end.Closed → WireEnds names mid new [] e → Wrote e
     ended e other q =
-        wire_writes names all reads written writes new answers replies_here e other
-        (subst (λ xs. WireEnds names began new xs e) (append-nil answers)
+        wire_writes names all reads written writes new answers replies_here before_here e other
+        lawful_here (subst (λ xs. WireEnds names began new xs e) (append-nil answers)
         (wire_join names began mid new answers [] p.passed p.written e p.counts other q))
 
     -- memory was wanting inside a request
@@ -351,8 +403,8 @@ module _ (names : List NameShards) (all : List ℕ) (reads : ℕ) (written : Opt
     broke m passed app =
         let o = (answered_alone (layout names) logs (tickets_of b.shown) m).1 in
         let reply = reply_of m.request.closes 0 o in
-        begun_part names all reads written writes new answers replies_here m (reply ++ [])
-        (behind (m ∷ [])
+        begun_part names all reads written writes new answers replies_here before_here m
+        (reply ++ []) lawful_here (behind (m ∷ [])
         ∙ ap (λ (t : ByteList). replies_of answers ++ t) (append_assoc (said m.asks) reply []))
         (passed_join names began mid new answers [] p.passed p.written (m ∷ []) false passed)
         (appends_join written mid.written new.written (replies_of answers) (said m.asks) p.written
@@ -362,11 +414,10 @@ module _ (names : List NameShards) (all : List ℕ) (reads : ℕ) (written : Opt
     cut_off : (c : Told) (a : Answer) → IsAnsweredTo (layout names) w v b c a
         → Rose mid.writes new.writes → IsCutOff names mid new (a ∷ []) → Wrote end.WriteFault
     cut_off c a x rose cut =
-        wire_writes names all reads written writes new (answers ++ a ∷ [])
-        (replies_more v c a (record { same = refl; grown = grows_same v.seen }) x) end.WriteFault
-        not_closing
+        broken_part names all reads written writes new (answers ++ a ∷ [])
+        (replies_more v c a (record { same = refl; grown = grows_same v.seen }) x) (before_more a)
         (wire_join names began mid new answers (a ∷ []) p.passed p.written end.WriteFault p.counts
-        not_closing (rose, inr cut))
+        not_closing (rose, inr cut)).1
 
     -- memory was wanting when the daemons ran behind one more message
     cut_in_runs : (u : Writer) (c : Told) (a : Answer) → HasGrown u v
@@ -374,7 +425,7 @@ module _ (names : List NameShards) (all : List ℕ) (reads : ℕ) (written : Opt
         → Appends mid.written new.written (replies_of (a ∷ [])) → Wrote end.OutOfMemory
     cut_in_runs u c a later x passed app =
         between_part names all reads written writes new (answers ++ a ∷ [])
-        (replies_more u c a later x)
+        (replies_more u c a later x) (before_more a)
         (subst (λ ms. Passed names began new ms false)
         (sym (map-append (λ (y : Answer). y.message) answers (a ∷ [])))
         (passed_join names began mid new answers (a ∷ []) p.passed p.written (a.message ∷ []) false

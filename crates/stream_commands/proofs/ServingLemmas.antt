@@ -1,11 +1,12 @@
 -- The serving of an input, message by message, with the daemons' runs behind each.
-use Rattle.std.proofs.Common.{◌≡◌, ◌∙◌, Bool, false, true, List, [], ◌∷◌, ◌++◌, refl, sym, ap, subst, inl, inr}
+use Rattle.std.proofs.Common.{◌≡◌, ◌∙◌, Bool, false, true, List, [], ◌∷◌, ◌++◌, refl, sym, subst, inl, inr}
 use Rattle.std.specs.Prelude.{Option, Some, None}
 use Rattle.std.proofs.lemmas.Grind.{flat_map-append}
 use Rattle.std.proofs.lemmas.List.{map-append}
 use Rattle.io_edge.specs.Edge.{Appends}
 use Rattle.exchange_rules.specs.Following.{Writer}
 use Rattle.exchange_rules.specs.Rows.{Layout}
+use Rattle.site_laws.specs.SiteCells.{IsLawful}
 use Rattle.daemon_board.specs.Boards.{Told}
 use Rattle.daemon_board.specs.Rising.{IsKept}
 use Rattle.daemon_board.specs.Tickets.{tickets_of}
@@ -20,7 +21,7 @@ use Rattle.stream_handler.specs.declared.exchange.Exchange.{Exchange}
 use Rattle.stream_handler.proofs.PassLemmas.{passes_none, untold}
 use Rattle.stream_handler.proofs.ServeLemmas.{passed_join}
 use Rattle.stream_handler.proofs.WireLemmas.{appends_join, appends_none, came_none, counts_join, counts_same}
-use Rattle.stream_commands.specs.Serving.{AreRounds, HasRound, HasRun, HasServed, IsAnsweredTo, IsCarriedOn, state_of}
+use Rattle.stream_commands.specs.Serving.{HasRound, HasRun, HasServed, IsAnsweredTo, IsCarriedOn, state_of}
 use Rattle.stream_commands.proofs.BoardLemmas.{said_kept}
 use Rattle.stream_commands.proofs.RoundLemmas.{rounds_join}
 
@@ -96,8 +97,8 @@ module _ (l : Layout) (old new : Wire) (w mid v : Writer) (before asked after : 
     (one : IsOneServed l old (at_board new asked) w mid x last) where
   -- it was answered, and the daemons ran
   carried_one : IsStepped l mid v (tickets_of asked.shown) (tickets_of after.shown)
-      → IsCarriedOn l old new w v before after (one.answer ∷ [])
-  carried_one stepped = record {
+      → IsLawful l.names v.seen → IsCarriedOn l old new w v before after (one.answer ∷ [])
+  carried_one stepped lawful = record {
     counts = record { reads = one.served.counts.reads; writes = one.served.counts.writes };
     passed = record {
       bytes = one.served.passed.bytes;
@@ -114,6 +115,7 @@ module _ (l : Layout) (old new : Wire) (w mid v : Writer) (before asked after : 
         answered = one_answered l old.board w mid before asked one.answer from
             one.served.exchanged one.served.boards;
         stepped = stepped;
+        lawful = lawful;
       },
       (refl, refl),
     );
@@ -157,16 +159,17 @@ module _ (l : Layout) (old new : Wire) (w mid v : Writer) (before asked after : 
   -- a message was served, and it goes on
   pub round_on : (k : Layout) (found : Option End) → k ≡ l
       → IsOneServed l old (at_board new asked) w mid x false
+      → IsLawful k.names v.seen
       → HasRun k mid v (tickets_of asked.shown) (tickets_of after.shown) None found
       → HasRound l old new w v before after found
-  round_on k found same one (inl ran) =
+  round_on k found same one lawful (inl ran) =
       subst (λ e. HasRound l old new w v before after e) (sym ran.1) (
         one.answer,
         carried_one l old new w mid v before asked after x false from to one
             (subst (λ m. IsStepped m mid v (tickets_of asked.shown) (tickets_of after.shown)) same
-            ran.0),
+            ran.0) (subst (λ m. IsLawful m.names v.seen) same lawful),
       )
-  round_on k found same one (inr ran) =
+  round_on k found same one lawful (inr ran) =
       subst (λ e. HasRound l old new w v before after e) (sym ran.1)
       (cut_one l old new w mid v before asked after x false from to one
       (subst (λ m. IsCutShort m mid v (tickets_of asked.shown) (tickets_of after.shown)) same
@@ -175,9 +178,10 @@ module _ (l : Layout) (old new : Wire) (w mid v : Writer) (before asked after : 
   -- one that closes was served
   pub round_last : (k : Layout) (found : Option End) → k ≡ l
       → IsOneServed l old (at_board new asked) w mid x true
+      → IsLawful k.names v.seen
       → HasRun k mid v (tickets_of asked.shown) (tickets_of after.shown) (Some end.Closed) found
       → HasRound l old new w v before after found
-  round_last k found same one (inl ran) =
+  round_last k found same one lawful (inl ran) =
       subst (λ e. HasRound l old new w v before after e) (sym ran.1) (record {
         answers = one.answer ∷ [];
         mid = new;
@@ -185,7 +189,7 @@ module _ (l : Layout) (old new : Wire) (w mid v : Writer) (before asked after : 
         board = after;
         served = carried_one l old new w mid v before asked after x true from to one
             (subst (λ m. IsStepped m mid v (tickets_of asked.shown) (tickets_of after.shown)) same
-            ran.0);
+            ran.0) (subst (λ m. IsLawful m.names v.seen) same lawful);
         stops = inl (record {
           wire = refl;
           writer = refl;
@@ -194,7 +198,7 @@ module _ (l : Layout) (old new : Wire) (w mid v : Writer) (before asked after : 
         });
         told = to;
       })
-  round_last k found same one (inr ran) =
+  round_last k found same one lawful (inr ran) =
       subst (λ e. HasRound l old new w v before after e) (sym ran.1)
       (cut_one l old new w mid v before asked after x true from to one
       (subst (λ m. IsCutShort m mid v (tickets_of asked.shown) (tickets_of after.shown)) same

@@ -11,7 +11,7 @@ use Rattle.stream_handler.specs.Outcomes.{body_of}
 use Rattle.stream_handler.specs.declared.outcome.Outcome.{Outcome}
 use Rattle.stream_commands.specs.Inputs.{limit, IsInput, IsReadOut}
 use Rattle.stream_commands.specs.Replies.{meaning, reply, reply_of, outcome_of}
-use Rattle.stream_commands.specs.Commands.{IsAnswered, IsRefused, IsBegun, IsBroken, IsCut, IsStarved, IsStopped}
+use Rattle.stream_commands.specs.Commands.{IsAnswered, IsRefused, IsBegun, IsBroken, IsCut, IsInPart, IsStarved, IsStopped}
 use Rattle.stream_commands.specs.Evaluations.{ending_of}
 use Rattle.stream_commands.specs.Endings.{EndsFor, WritesFor, Writes}
 use Rattle.stream_commands.specs.declared.ending.Ending.{Ending}
@@ -63,8 +63,7 @@ reply_begun names None left bytes read o piece old new input same means writes a
 reply_begun names (Some all) left bytes read o piece old new input same means writes app =
     let m = meaning names (take limit all) in
     let outcome_is : o ≡ outcome_of m =
-    subst (λ (b : ByteList). o ≡ outcome_of (meaning names b)) (same ∙ input.0) means in
-    inr (
+    subst (λ (b : ByteList). o ≡ outcome_of (meaning names b)) (same ∙ input.0) means in (
       input.1,
       subst (λ (b : ByteList). AppendsPrefix old new b)
           (writes ∙ (ap (λ (x : Outcome). body_of x 0) outcome_is ∙ body_of-outcome_of m)) app,
@@ -76,6 +75,13 @@ starved_begun : (command : Option Command) (all : List ℕ) (left old new : Opti
 starved_begun None all left old new is = is
 starved_begun (Some (Eval names)) all left old new is = inl is
 starved_begun (Some (Script names)) all left old new is = is
+
+-- and where output failed
+part_begun : (command : Option Command) (all : List ℕ) (left old new : Option (List ℕ))
+    → IsInPart command all left old new → IsBegun command all left old new
+part_begun None all left old new is = absurd is
+part_begun (Some (Eval names)) all left old new is = inr is
+part_begun (Some (Script names)) all left old new is = is.0
 
 -- and where input failed
 broken_begun : (command : Option Command) (all : List ℕ) (left old new : Option (List ℕ))
@@ -134,7 +140,7 @@ begun_for : (end : Ending) (command : Option Command) (all : List ℕ)
     → WritesFor end command all left old new → IsBegun command all left old new
 begun_for Done command all left old new ends w = answered_begun command all left old new w
 begun_for InputFailed command all left old new ends w = broken_begun command all left old new w
-begun_for OutputFailed command all left old new ends w = w
+begun_for OutputFailed command all left old new ends w = part_begun command all left old new w
 begun_for WordsRefused command all left old new ends w =
     refused_words command all left old new ends w
 begun_for Faulty command all left old new ends w = refused_begun command all left old new w

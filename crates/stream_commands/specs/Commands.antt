@@ -4,9 +4,9 @@ use Rattle.tuple_values.specs.Document.{ByteList}
 use Rattle.command_words.specs.Commands.{command_of}
 use Rattle.command_words.specs.declared.command.Command.{Command}
 use Rattle.command_words.specs.declared.command.Command.TheVariants.{Eval, Script}
-use Rattle.stream_commands.specs.Evaluations.{IsEvaluated, IsFaultTold, IsReplyWithin, IsUnanswered}
-use Rattle.stream_commands.specs.Scripts.{IsCarriedThrough, IsCutShort, IsScriptBegun, IsScriptRead}
-use Rattle.stream_commands.specs.Scripts.{IsStoppedAt}
+use Rattle.stream_commands.specs.Evaluations.{IsEvaluated, IsFaultTold, IsReplyBegun, IsReplyWithin, IsUnanswered}
+use Rattle.stream_commands.specs.Scripts.{IsCarriedThrough, IsCutShort, IsScriptBegun}
+use Rattle.stream_commands.specs.Scripts.{IsScriptInPart, IsScriptRead, IsStoppedAt}
 
 -- there is a command
 abbrev pub IsThere : Option Command → Type 0
@@ -55,6 +55,14 @@ abbrev pub IsStarved : Option Command → List ℕ → Option (List ℕ) → Opt
 IsStarved None all left old new = new ≡ old
 IsStarved (Some (Eval names)) all left old new = IsUnanswered all left old new
 IsStarved (Some (Script names)) all left old new = IsScriptBegun names all left old new
+
+-- where output failed: a first part of the one or the other is written, of all bytes that were
+-- taken; `eval` has read its input
+abbrev pub IsInPart : Option Command → List ℕ → Option (List ℕ) → Option (List ℕ)
+    → Option (List ℕ) → Type 0
+IsInPart None all left old new = ⊥
+IsInPart (Some (Eval names)) all left old new = IsReplyBegun names all left old new
+IsInPart (Some (Script names)) all left old new = IsScriptInPart names all left old new
 
 -- where input failed: `eval` has written nothing, a script all that the bytes before ask for
 abbrev pub IsBroken : Option Command → List ℕ → Option (List ℕ) → Option (List ℕ)

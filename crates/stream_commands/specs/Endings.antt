@@ -6,7 +6,7 @@ use Rattle.tuple_values.specs.Document.{ByteList}
 use Rattle.command_words.specs.Commands.{command_of}
 use Rattle.command_words.specs.declared.command.Command.{Command}
 use Rattle.command_words.specs.declared.command.Command.TheVariants.{Eval, Script}
-use Rattle.stream_commands.specs.Commands.{IsAnswered, IsRefused, IsBegun, IsBroken, IsCut, IsStarved}
+use Rattle.stream_commands.specs.Commands.{IsAnswered, IsRefused, IsBroken, IsCut, IsInPart, IsStarved}
 use Rattle.stream_commands.specs.Commands.{IsStopped, IsEval, IsScript}
 use Rattle.stream_commands.specs.declared.ending.Ending.{Ending}
 use Rattle.stream_commands.specs.declared.ending.Ending.TheVariants.{Done, InputFailed, OutputFailed, WordsRefused, Faulty, OutOfMemory, InputCut, MessageRefused}
@@ -43,7 +43,7 @@ abbrev pub WritesFor : Ending → Option Command → List ℕ → Option (List �
     → Option (List ℕ) → Type 0
 WritesFor Done command all left old new = IsAnswered command all left old new
 WritesFor InputFailed command all left old new = IsBroken command all left old new
-WritesFor OutputFailed command all left old new = IsBegun command all left old new
+WritesFor OutputFailed command all left old new = IsInPart command all left old new
 WritesFor WordsRefused command all left old new = new ≡ old
 WritesFor Faulty command all left old new = IsRefused command all left old new
 WritesFor OutOfMemory command all left old new = IsStarved command all left old new

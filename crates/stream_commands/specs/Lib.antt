@@ -2,6 +2,7 @@ pub mod Inputs
 pub mod Replies
 pub mod Evaluations
 pub mod Boards
+pub mod Rounds
 pub mod Scripts
 pub mod Commands
 pub mod Endings

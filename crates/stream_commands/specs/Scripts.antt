@@ -6,45 +6,20 @@ use Rattle.io_edge.specs.Edge.{Appends}
 use Rattle.tuple_values.specs.Document.{ByteList}
 use Rattle.tuple_values.specs.declared.names.NameShards.{NameShards}
 use Rattle.exchange_rules.specs.Cells.{Log}
-use Rattle.exchange_rules.specs.Courses.{run_alone}
 use Rattle.exchange_rules.specs.Rows.{Layout}
-use Rattle.daemon_board.specs.Tickets.{Tickets, with_tickets}
-use Rattle.daemon_steps.specs.Steps.{steps_course}
+use Rattle.daemon_board.specs.Tickets.{Tickets}
 use Rattle.form_request.specs.Readings.{Reads}
 use Rattle.form_request.specs.Streams.{Held, begun}
 use Rattle.form_request.specs.declared.reading.After.{After}
 use Rattle.form_request.specs.declared.reading.After.TheVariants.{Refusal, Rest}
 use Rattle.form_request.specs.declared.reading.Message.{Message}
-use Rattle.stream_handler.specs.Asks.{ask_of}
 use Rattle.stream_handler.specs.Outcomes.{reply_of}
 use Rattle.stream_handler.specs.Passing.{Passes, front_text, said}
 use Rattle.stream_handler.specs.Refusals.{refusal_reply}
-use Rattle.stream_handler.specs.Requests.{request_course}
 use Rattle.stream_handler.specs.Sessions.{Came}
-use Rattle.stream_handler.specs.declared.outcome.Outcome.{Outcome}
-use Rattle.stream_commands.specs.Boards.{board_alone, no_tickets}
+use Rattle.stream_commands.specs.Boards.{no_tickets}
 use Rattle.stream_commands.specs.Replies.{layout, logs_at_start}
-
--- what the board is after a message, and what it answers where the message's request asks it
-abbrev pub asked_alone : Layout → Tickets → Message → Tickets × Outcome
-asked_alone l b m = board_alone (ask_of l.names m.request) b
-
--- what the request of a message leaves in the logs and is answered, carried out alone over these
--- logs and this board
-abbrev pub answered_alone : Layout → List Log → Tickets → Message → List Log × Outcome
-answered_alone l logs b m =
-    run_alone 1 logs (request_course l (asked_alone l b m).1 m.request)
-
--- the logs and the board once every running daemon of the board ran once, one after another in the
--- order in which they were put on it
-abbrev pub after_daemons : Layout → List Log → Tickets → List Log × Tickets
-after_daemons l logs b =
-    let ran = run_alone 1 logs (steps_course l b.tickets) in (ran.0, with_tickets b ran.1)
-
--- the logs and the board after a message and after the daemons that run then
-abbrev pub after_message : Layout → List Log → Tickets → Message → List Log × Tickets
-after_message l logs b m =
-    after_daemons l (answered_alone l logs b m).0 (asked_alone l b m).0
+use Rattle.stream_commands.specs.Rounds.{AreLawful, AreLawfulBefore, after_message, answered_alone}
 
 -- the replies to these messages, each with `100 Continue` before it where it asks for that: one
 -- writer carries out their requests alone, in order, and after each whole request every running
@@ -70,8 +45,9 @@ replies_over names messages =
 abbrev pub script_text : List NameShards → List Message → After → ByteList
 script_text names messages after = replies_over names messages ++ tail_text after
 
--- an input, which was told to have these bytes, holds messages and then this, as do those bytes of it
--- that were taken, and all that is to be written is written
+-- an input, which was told to have these bytes, holds messages and then this, as do those bytes of
+-- it that were taken; all that is to be written is written, and the law holds of the histories
+-- behind it
 pub record IsScriptRun (names : List NameShards) (all : List ℕ) (left : Option (List ℕ)) (after : After)
     (old new : Option (List ℕ)) : Type 0 where
   pub messages : List Message
@@ -80,6 +56,7 @@ pub record IsScriptRun (names : List NameShards) (all : List ℕ) (left : Option
   pub came : Came (Some all) left read
   pub reads : Reads names read messages after
   pub written : Appends old new (script_text names messages after)
+  pub lawful : AreLawful names messages
 
 -- such an input ends between messages or is closed by one
 abbrev pub IsCarriedThrough : List NameShards → List ℕ → Option (List ℕ) → Option (List ℕ)
@@ -98,8 +75,8 @@ abbrev pub IsStoppedAt : List NameShards → ℕ → List ℕ → Option (List �
     → Option (List ℕ) → Type 0
 IsStoppedAt names status all left old new = IsScriptRun names all left (Refusal status) old new
 
--- the bytes that were taken of such an input hold messages and then something, and all that is to be
--- written of them is written
+-- the bytes that were taken of such an input hold messages and then something; all that is to be
+-- written of them is written, and the law holds of the histories behind it
 pub record IsScriptRead (names : List NameShards) (all : List ℕ) (left old new : Option (List ℕ))
     : Type 0 where
   pub messages : List Message
@@ -108,6 +85,7 @@ pub record IsScriptRead (names : List NameShards) (all : List ℕ) (left old new
   pub came : Came (Some all) left read
   pub reads : Reads names read messages after
   pub written : Appends old new (script_text names messages after)
+  pub lawful : AreLawful names messages
 
 -- behind these messages of the bytes this text is written: of all that stands behind them, or, where
 -- they were not read to their end, of the message to which they lead
@@ -118,7 +96,7 @@ IsBehind names bytes messages text =
     × (text ≡ front_text held.stage told))
 
 -- the bytes that were taken of such an input, but perhaps for the last of them, hold messages, and a
--- first part of what is to be written of them is written
+-- first part of what is to be written of them is written; the law held before each of the messages
 pub record IsScriptBegun (names : List NameShards) (all : List ℕ) (left old new : Option (List ℕ))
     : Type 0 where
   pub read : List ℕ
@@ -131,3 +109,10 @@ pub record IsScriptBegun (names : List NameShards) (all : List ℕ) (left old ne
   pub rest : ByteList
   pub written : Appends old new front
   pub begins : replies_over names messages ++ text ≡ front ++ rest
+  pub lawful : AreLawfulBefore names messages
+
+-- the same, where none of the bytes that were taken are lost
+abbrev pub IsScriptInPart : List NameShards → List ℕ → Option (List ℕ) → Option (List ℕ)
+    → Option (List ℕ) → Type 0
+IsScriptInPart names all left old new =
+    (begun : IsScriptBegun names all left old new) × (begun.lost ≡ [])

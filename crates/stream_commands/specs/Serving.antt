@@ -3,6 +3,7 @@ use Rattle.std.specs.Prelude.{◌≡◌, ◌⊎◌, Bool, false, List, [], ◌�
 use Rattle.io_edge.specs.Edge.{Appends}
 use Rattle.exchange_rules.specs.Following.{Writer}
 use Rattle.exchange_rules.specs.Rows.{Layout}
+use Rattle.site_laws.specs.SiteCells.{IsLawful}
 use Rattle.form_request.specs.declared.plan.Stage.TheVariants as stage
 use Rattle.daemon_board.specs.Boards.{Told}
 use Rattle.daemon_board.specs.Tickets.{Tickets, tickets_of}
@@ -27,12 +28,14 @@ pub record IsAnsweredTo (l : Layout) (w v : Writer) (before after : Told) (a : A
   pub exchanged : Exchanged l w v (a ∷ [])
   pub said : Says (ask_of l.names a.message.request) (state_of before) (state_of after) a.outcome
 
--- a message was answered, and then every running daemon of the board ran once
+-- a message was answered, and then every running daemon of the board ran once; the law holds of all
+-- histories afterwards
 pub record IsRound (l : Layout) (w v : Writer) (before after : Told) (a : Answer) : Type 0 where
   pub mid : Writer
   pub asked : Told
   pub answered : IsAnsweredTo l w mid before asked a
   pub stepped : IsStepped l mid v (tickets_of asked.shown) (tickets_of after.shown)
+  pub lawful : IsLawful l.names v.seen
 
 -- so it was with each of these messages, one after another
 abbrev pub AreRounds : Layout → Writer → Told → List Answer → Writer → Told → Type 0

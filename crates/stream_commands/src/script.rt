@@ -3,6 +3,7 @@ ghost use Rattle.std.specs.Prelude.{◌≡◌, Some};
 ghost use Rattle.command_words.specs.declared.command.Command.TheVariants.{Script};
 ghost use Rattle.daemon_board.specs.Rising.{IsKept};
 ghost use Rattle.daemon_board.specs.Tickets.{tickets_of};
+ghost use Rattle.site_laws.specs.SiteCells.{IsLawful};
 ghost use Rattle.stream_handler.specs.Sessions.{wire};
 ghost use Rattle.stream_site.specs.Plains.{layout_of, writer_of};
 ghost use Rattle.stream_commands.specs.Endings.{HasRisen, IsEndingOf, Writes};
@@ -47,9 +48,14 @@ fn run_board<R: Threads + Sync, G: Gate>(
     ensures ran { HasRun (layout_of site.old) (writer_of site.old) (writer_of site.new)
         (tickets_of board.old.shown) (tickets_of board.new.shown) next result }
     ensures kept { IsKept board.new.shown }
+    ensures lawful { IsLawful (layout_of site.new).names (writer_of site.new).seen }
     ensures layout { layout_of site.new ≡ layout_of site.old }
 {
-    match run_daemons(alloc, rt, site, board, gate) {
+    let ran = run_daemons(alloc, rt, site, board, gate);
+
+    // Its contract says that the law holds of the histories.
+    let _ = site.names();
+    match ran {
         Ok(()) => next,
         Err(_) => Some(End::OutOfMemory),
     }

@@ -1,4 +1,6 @@
-use Rattle.std.proofs.Common.{refl}
+use Rattle.std.proofs.Common.{refl, subst}
+use Rattle.exchange_rules.specs.Rows.{Layout}
+use Rattle.site_laws.specs.SiteCells.{IsLawful}
 use Rattle.stream_site.specs.Plains.{layout_of, writer_of}
 use Rattle.stream_handler.specs.Sessions.{wire}
 use Rattle.stream_commands.specs.Serving.{state_of}
@@ -25,7 +27,8 @@ returns-in-Served-clause-round g c =
     (writer_of c.serve_one.new.site) (writer_of c.run_board.new.site) c.args.board.now
     c.serve_one.new.board c.run_board.new.board _ refl refl (layout_of c.serve_one.new.site)
     c.run_board.result c.in-Served.ensures.stays.layout c.in-Served.ensures.served
-    c.run_board.ensures.ran
+    (subst (λ (m : Layout). IsLawful m.names (writer_of c.run_board.new.site).seen)
+    c.run_board.ensures.layout c.run_board.ensures.lawful) c.run_board.ensures.ran
 
 pub returns-in-Last-clause-round : goal.returns-in-Last-clause-round
 returns-in-Last-clause-round g c =
@@ -39,7 +42,10 @@ returns-in-Last-clause-round g c =
     (writer_of c.serve_one.new.site) (writer_of c.run_board-in-Last.new.site) c.args.board.now
     c.serve_one.new.board c.run_board-in-Last.new.board _ refl refl
     (layout_of c.serve_one.new.site) c.run_board-in-Last.result c.in-Last.ensures.stays.layout
-    c.in-Last.ensures.served c.run_board-in-Last.ensures.ran
+    c.in-Last.ensures.served
+    (subst (λ (m : Layout). IsLawful m.names (writer_of c.run_board-in-Last.new.site).seen)
+    c.run_board-in-Last.ensures.layout c.run_board-in-Last.ensures.lawful)
+    c.run_board-in-Last.ensures.ran
 
 pub returns-clause-round : goal.returns-clause-round
 returns-clause-round g c =
