@@ -1,5 +1,5 @@
 -- The cells of the first collection, and what a look at one shows.
-use Rattle.std.proofs.Common.{◌≡◌, ℕ, ◌+◌, ◌<◌, Bool, true, List, [], ◌∷◌, Some, get_or, slice_get, sym, ap, subst, ◌∙◌, arith, bytes_eq, if◌then◌else◌}
+use Rattle.std.proofs.Common.{◌≡◌, ℕ, ◌+◌, ◌<◌, Bool, true, List, [], ◌∷◌, Some, get_or, slice_get, sym, ap, subst, ◌∙◌, arith, append-nil, bytes_eq, if◌then◌else◌}
 use Rattle.tuple_values.specs.Document.{ByteList}
 use Rattle.tuple_values.specs.declared.names.NameShards.{NameShards}
 use Rattle.shard_versions.specs.Shards.{Shown}
@@ -11,6 +11,7 @@ use Rattle.exchange_rules.specs.Rows.{shown_of}
 use Rattle.exchange_rules.proofs.CellLemmas.{cell_of-from, cell_of-within}
 use Rattle.site_laws.specs.SiteCells.{histories_in}
 use Rattle.site_laws.proofs.CellLemmas.{shard-at}
+use Rattle.case_items.specs.Items.{IsShown}
 
 -- the first collection has the first cell, by what was compared
 pub first-cell : (names : List NameShards) (n : NameShards) (name other collection : ByteList)
@@ -50,12 +51,17 @@ shard-cell names found again src name shard shards cell a first b c d lt e =
       within = omega (arith, from, start, e, within);
     }
 
--- what a look at a shard's cell shows is the shard's history
+-- what is read of a shard's cell shows the shard's whole history
 pub shown-is : (names : List NameShards) (logs : List Log) (src : ByteList) (shard cell : ℕ)
     (s : Shown) → shard < shards_of names src → cell ≡ cell_of names src shard
-    → s ≡ shown_of (history_in (get_or logs cell []))
-    → s ≡ shown_of (shard_history names (histories_in names logs) src shard)
+    → s ≡ shown_of (history_in (get_or logs cell [])) → IsShown names logs src shard s
 shown-is names logs src shard cell s lt at is =
-    is ∙ ap shown_of (ap (λ c. history_in (get_or logs c [])) at
-    ∙ sym (shard-at (cells_in names) logs (cell_of names src shard)
-    (cell_of-within names src shard lt)))
+    let h = shard_history names (histories_in names logs) src shard in
+    record {
+      front = h;
+      more = [];
+      begins = sym (append-nil h);
+      is = is ∙ ap shown_of (ap (λ c. history_in (get_or logs c [])) at
+          ∙ sym (shard-at (cells_in names) logs (cell_of names src shard)
+          (cell_of-within names src shard lt)));
+    }

@@ -1,5 +1,5 @@
 -- A current document that a snapshot shows is a committed write of its history.
-use Rattle.std.proofs.Common.{◌≡◌, ℕ, ◌<◌, ◌≤◌, true, List, [], Some, get_or, length, sym, ap, subst, ◌∙◌}
+use Rattle.std.proofs.Common.{◌≡◌, ℕ, ◌<◌, ◌≤◌, ◌++◌, true, List, [], Some, get_or, length, sym, ap, subst, ◌∙◌, arith}
 use Rattle.tuple_values.specs.Document.{ByteList, Doc}
 use Rattle.tuple_values.specs.Keys.{shard_of}
 use Rattle.tuple_values.specs.declared.names.NameShards.{NameShards}
@@ -7,14 +7,14 @@ use Rattle.shard_versions.specs.Documents.{id_of, with_version, is_storable, IsF
 use Rattle.shard_versions.specs.Histories.{History, Slot, slots, write_at, settled, committed, current, top}
 use Rattle.shard_versions.specs.Shards.{Shown}
 use Rattle.shard_versions.proofs.ListLemmas.{each_at}
-use Rattle.shard_versions.proofs.VersionLemmas.{settled-begins, write-stays}
+use Rattle.shard_versions.proofs.VersionLemmas.{settled-begins, top-grows, versioned, write-stays}
 use Rattle.topic_book.specs.Fitness.{shards_of}
 use Rattle.once_core.specs.Cells.{shard_history, home_history}
 use Rattle.once_core.proofs.CurrentLemmas.{IsLast, current-last}
 use Rattle.exchange_rules.specs.Cells.{Log}
-use Rattle.exchange_rules.specs.Rows.{shown_of}
 use Rattle.site_laws.specs.Duties.{IsItem}
 use Rattle.site_laws.specs.SiteCells.{histories_in}
+use Rattle.case_items.specs.Items.{IsShown}
 
 -- a committed write is one of the history's
 committed-written : (h : History) (v : ℕ) (s : Slot) → write_at v (committed h) ≡ Some s
@@ -45,38 +45,38 @@ pub record IsMade (src : ByteList) (s : Shown) (k version : ℕ) (shown document
   pub reached : version ≤ s.top
   pub from : (doc : Doc) → shown ≡ with_version version doc → IsFrom document src version doc
 
--- such an item is a delivery of a committed write
-pub item-is : (names : List NameShards) (logs : List Log) (dest src : ByteList)
-    (shard k version : ℕ) (s : Shown) (shown document : Doc)
-    → s ≡ shown_of (shard_history names (histories_in names logs) src shard)
+-- such an item is a delivery of a committed write, where the history is a front of what was seen of
+-- the shard
+pub item-is : (names : List NameShards) (seen : List Log) (dest src : ByteList)
+    (shard k version : ℕ) (s : Shown) (shown document : Doc) → IsShown names seen src shard s
     → IsMade src s k version shown document
     → shard_of (shards_of names src) (id_of document) ≡ shard → is_storable document ≡ true
-    → IsItem names logs dest src (record { version = version; document = document })
+    → IsItem names seen dest src (record { version = version; document = document })
 unfolding IsFrom
-item-is names logs dest src shard k version s shown document is made routed storable =
+item-is names seen dest src shard k version s shown document there made routed storable =
     record {
       storable = storable;
       delivery = record {
         doc = last.doc;
-        reached = subst (λ x. version ≤ top x) (sym home)
-            (subst (λ (x : Shown). version ≤ x.top) is made.reached);
+        reached = subst (λ x. version ≤ top x) (sym home) (omega (arith, low, up));
         written = subst (λ x. write_at version (slots x) ≡ Some written) (sym home)
-            (committed-written h version written there);
+            (write-stays version written h there.more
+            (committed-written h version written found));
         is_from = from;
       };
     }
   where
     h : History
-    h = shard_history names (histories_in names logs) src shard
+    h = there.front
 
     p : ℕ × Doc
     p = get_or s.documents k (0, [])
 
     last : IsLast (committed h) p
     last =
-        subst (λ (x : Shown). IsLast (committed h) (get_or x.documents k (0, []))) (sym is)
+        subst (λ (x : Shown). IsLast (committed h) (get_or x.documents k (0, []))) (sym there.is)
         (each_at (IsLast (committed h)) (current h) k (0, [])
-        (subst (λ (x : Shown). k < length x.documents) is made.in_range) (current-last h))
+        (subst (λ (x : Shown). k < length x.documents) there.is made.in_range) (current-last h))
 
     from : IsFrom document src version last.doc
     from =
@@ -86,14 +86,20 @@ item-is names logs dest src shard k version s shown document is made routed stor
     same_id : id_of document ≡ id_of last.doc
     same_id = from.same_id
 
-    home : home_history names (histories_in names logs) src (id_of document) ≡ h
-    home = ap (shard_history names (histories_in names logs) src) routed
+    home : home_history names (histories_in names seen) src (id_of document) ≡ h ++ there.more
+    home = ap (shard_history names (histories_in names seen) src) routed ∙ there.begins
+
+    low : version ≤ top h
+    low = subst (λ (x : Shown). version ≤ x.top) there.is made.reached
+
+    up : top h ≤ top (h ++ there.more)
+    up = top-grows h there.more (versioned (h ++ there.more))
 
     written : Slot
     written = record { version = version; id = id_of document; left = Some last.doc }
 
-    there : write_at version (committed h) ≡ Some written
-    there =
+    found : write_at version (committed h) ≡ Some written
+    found =
         subst (λ v. write_at v (committed h)
         ≡ Some (record { version = v; id = id_of document; left = Some last.doc }))
         (sym made.version_is)

@@ -1,3 +1,4 @@
 pub mod CellLemmas
 pub mod FieldLemmas
 pub mod ItemLemmas
+pub mod PartLemmas

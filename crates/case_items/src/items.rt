@@ -1,25 +1,23 @@
-// Items to be delivered: the current documents of a collection, as its snapshots show them.
-ghost use Rattle.std.specs.Prelude.{ℕ, ◌≡◌, ◌<◌, ◌≤◌, ◌^◌, IfOk, IfSome, IsTrue, length};
+// Items to be delivered: the current documents of a collection, as snapshots of its shards show them.
+ghost use Rattle.std.specs.Prelude.{ℕ, ◌≡◌, ◌<◌, ◌≤◌, ◌^◌, ◌++◌, IfOk, IfSome, IsTrue, OnOk, length, map, slice_index_or};
 ghost use Rattle.std.specs.List.{AllByRecursion};
 ghost use Rattle.tuple_values.specs.Document.{Doc};
 ghost use Rattle.shard_versions.specs.Documents.{IsFrom, with_version};
 ghost use Rattle.topic_book.specs.Cells.{cell_of};
 ghost use Rattle.topic_book.specs.Fitness.{shards_of};
-ghost use Rattle.once_core.specs.Cells.{shard_history};
-ghost use Rattle.exchange_rules.specs.Rows.{shown_of};
 ghost use Rattle.site_laws.specs.Duties.{IsItem};
-ghost use Rattle.site_laws.specs.SiteCells.{histories_in};
-ghost use Rattle.stream_site.specs.Plains.{writer_of};
+ghost use Rattle.case_items.specs.Items.{made_document, made_item, made_items, AreShown, IsShown};
 
-use shard_versions::{Snapshot, id_of, is_storable};
+use shard_versions::{Cut, Snapshot, id_of, is_storable};
 use std::alloc::Global;
-use stream_site::{Batch, BatchItem, PlainSite, Turns, shards_of};
-use tuple_values::{FieldList, Memory, Names, Text, Tuple, Value, shard_of};
+use stream_site::{Batch, BatchItem, shards_of};
+use tuple_values::{Memory, Names, Text, Tuple, Value, shard_of};
 
 // The document as it is delivered: without its version, and with where it comes from.
 fn delivered(alloc: Global, src: &Text, version: u64, shown: &Tuple) -> Result<Tuple, Memory>
     requires { version < 2 ^ 63 }
-    ensures { IfOk result (λ document. (doc : Doc) → shown.now ≡ with_version version doc
+    ensures made { IfOk result (λ document. document ≡ made_document src.now version shown.now) }
+    ensures from { IfOk result (λ document. (doc : Doc) → shown.now ≡ with_version version doc
         → IsFrom document src.now version doc) }
 {
     // The names of its fields rise: each is there once.
@@ -41,94 +39,76 @@ fn delivered(alloc: Global, src: &Text, version: u64, shown: &Tuple) -> Result<T
 // kept, or a test of what an item asks fails.
 fn item_of(
     alloc: Global,
-    site: &PlainSite,
+    names: &Names,
     src: &Text,
     shard: u16,
     shown: &Snapshot,
     k: u64,
 ) -> Result<Option<BatchItem>, Memory>
-    requires known { 0 < shards_of site.now.names src.now }
-    requires shown { shown.now ≡ shown_of (shard_history site.now.names
-        (histories_in site.now.names (writer_of site.now).seen) src.now shard) }
+    requires known { 0 < shards_of names.now src.now }
     requires in_range { k < length shown.now.documents }
-    ensures { (dest : _) → IfOk result (λ item. IfSome item
-        (IsItem site.now.names (writer_of site.now).seen dest src.now)) }
+    ensures made { (d : _) → IfOk result (λ item. IfSome item
+        (λ made. made ≡ made_item src.now (slice_index_or shown.now.documents k d))) }
+    ensures item { (seen dest : _) → IsShown names.now seen src.now shard shown.now
+        → IfOk result (λ item. IfSome item (IsItem names.now seen dest src.now)) }
 {
     let version = shown.version(k);
     if version > shown.top() || version > i64::MAX as u64 {
         return Ok(None);
     }
     let document = delivered(alloc, src, version, shown.document(k))?;
-    let home = shard_of(id_of(&document), shards_of(site.names(), src.as_str()));
+    let home = shard_of(id_of(&document), shards_of(names, src.as_str()));
     if home != shard || !is_storable(&document) {
         return Ok(None);
     }
     Ok(Some(BatchItem { version, document }))
 }
 
-// Whether the item is asked for: its id is named, or none is.
-fn is_wanted(item: &BatchItem, ids: &FieldList) -> bool {
-    ids.len() == 0 || ids.contains(id_of(&item.document))
-}
-
-// The batch, and behind it the items of what the snapshot shows that are asked for.
-fn shard_items(
+/// Adds the items of all documents that a snapshot of the source's shard shows; whether each of them
+/// can be kept. Each item that is added is a delivery, whatever the destination is.
+pub fn add_items(
     alloc: Global,
-    site: &PlainSite,
+    names: &Names,
     src: &Text,
     shard: u16,
     shown: &Snapshot,
-    ids: &FieldList,
-    batch: Batch,
-) -> Result<Batch, Memory>
-    requires known { 0 < shards_of site.now.names src.now }
-    requires shown { shown.now ≡ shown_of (shard_history site.now.names
-        (histories_in site.now.names (writer_of site.now).seen) src.now shard) }
-    ensures { (dest : _)
-        → AllByRecursion (IsItem site.now.names (writer_of site.now).seen dest src.now) batch
-        → IfOk result (λ items.
-        AllByRecursion (IsItem site.now.names (writer_of site.now).seen dest src.now) items) }
+    batch: &mut Batch,
+) -> Result<bool, Memory>
+    requires { 0 < shards_of names.now src.now }
+    ensures made { IfOk result (λ fine. IsTrue fine
+        → batch.new ≡ batch.old ++ map (made_item src.now) shown.now.documents) }
+    ensures items { (seen dest : _) → IsShown names.now seen src.now shard shown.now
+        → AllByRecursion (IsItem names.now seen dest src.now) batch.old
+        → OnOk result (AllByRecursion (IsItem names.now seen dest src.now) batch.new) }
 {
-    let mut batch = batch;
     for k in 0..shown.count() {
-        if let Some(item) = item_of(alloc, site, src, shard, shown, k)? {
-            if is_wanted(&item, ids) {
-                batch.push(item)?;
-            }
-        }
+        let Some(item) = item_of(alloc, names, src, shard, shown, k)? else {
+            return Ok(false);
+        };
+        batch.push(item)?;
     }
-    Ok(batch)
+    Ok(true)
 }
 
-// Whether the collection is the first one, whose shards have the first cells.
-fn is_first(names: &Names, collection: &Text) -> bool
-    ensures { IsTrue result → cell_of names.now collection.now 0 ≡ 0 }
-{
-    match names.get(0) {
-        Some(first) => first.name.as_str() == collection.as_str(),
-        None => false,
-    }
-}
-
-/// The current documents of the site's first collection as items of a batch, shard by shard and
-/// then by version: those with these ids, or all where there is no id. Of another collection there
-/// is no item.
-pub fn current_items(
+/// The items of all documents that the parts of a cut of the source show; none where one of them
+/// can't be kept. Each is a delivery of what was seen, whatever the destination is.
+pub fn cut_items(
     alloc: Global,
-    site: &PlainSite,
+    names: &Names,
     src: &Text,
-    ids: &FieldList,
-) -> Result<Batch, Memory>
-    ensures { (dest : _) → IfOk result (λ items.
-        AllByRecursion (IsItem site.now.names (writer_of site.now).seen dest src.now) items) }
+    cut: &Cut,
+) -> Result<Option<Batch>, Memory>
+    requires { 0 < shards_of names.now src.now }
+    ensures made { IfOk result (λ items. IfSome items (λ made. made ≡ made_items src.now cut.now)) }
+    ensures items { (seen dest : _) → AreShown names.now seen src.now cut.now
+        → IfOk result (λ items. IfSome items
+        (AllByRecursion (IsItem names.now seen dest src.now))) }
 {
     let mut batch = Batch::new(alloc);
-    if !is_first(site.names(), src) {
-        return Ok(batch);
+    for part in cut.as_slice() {
+        if !add_items(alloc, names, src, part.shard, &part.snapshot, &mut batch)? {
+            return Ok(None);
+        }
     }
-    for shard in 0..shards_of(Turns::names(site), src.as_str()) {
-        let shown = site.snapshot(alloc, u32::from(shard))?;
-        batch = shard_items(alloc, site, src, shard, &shown, ids, batch)?;
-    }
-    Ok(batch)
+    Ok(Some(batch))
 }

@@ -1,7 +1,9 @@
-//! Items to be delivered by cases of a site: the current documents of a collection, as its snapshots
-//! show them.
+//! Items to be delivered by cases and tests of sites: the current documents of a collection, as
+//! snapshots of its shards show them.
 #![tactic(auto)]
 
+mod current;
 mod items;
 
-pub use items::current_items;
+pub use current::current_items;
+pub use items::{add_items, cut_items};

@@ -2,8 +2,9 @@
 ghost use Rattle.std.specs.Prelude.{◌≡◌, true, IfSome, IsSome};
 ghost use Rattle.expr_types.specs.ExprTree.{expr_tree};
 ghost use Rattle.expr_check.specs.Views.{tree_of};
-ghost use Rattle.running_site.specs.Passes.{number_of};
+ghost use Rattle.running_site.specs.Passes.{layout_in, number_of, writer_of};
 ghost use Rattle.update_sink.specs.Topics.{sink_in_tree, sink_of, IsSinkThere};
+ghost use Rattle.site_threads.specs.Work.{HasWorked, IsRun};
 ghost use Rattle.site_threads.specs.Workers.{IsAt};
 
 use expr_check::{Checked, Roots};
@@ -64,6 +65,8 @@ fn run<R: Wait, G: Gate>(
     requires there { IsSinkThere site.now.names (sink_of (tree_of checked.now)) }
     ensures own { IsAt site.now pass.new }
     ensures number { number_of pass.new ≡ number_of pass.old }
+    ensures work { HasWorked (layout_in site.now.names site.now.limit) IsRun (writer_of pass.old)
+        (writer_of pass.new) }
 {
     let mut visit = site.visit(rt, pass);
     let result = run_topic(alloc, &mut visit, checked, gate);
@@ -96,6 +99,8 @@ fn read_by<R: Wait>(
     requires there { IsSinkThere site.now.names (sink_of (tree_of checked.now)) }
     ensures own { IsAt site.now pass.new }
     ensures number { number_of pass.new ≡ number_of pass.old }
+    ensures work { HasWorked (layout_in site.now.names site.now.limit) IsRun (writer_of pass.old)
+        (writer_of pass.new) }
 {
     let run = run(rt, alloc, site, pass, checked, &NoGate)?;
     Some(run.read)
@@ -115,6 +120,8 @@ fn deliver_until<R: Wait>(
     requires there { IsSinkThere site.now.names (sink_of (tree_of checked.now)) }
     ensures own { IsAt site.now pass.new }
     ensures number { number_of pass.new ≡ number_of pass.old }
+    ensures work { HasWorked (layout_in site.now.names site.now.limit) IsRun (writer_of pass.old)
+        (writer_of pass.new) }
 {
     let mut done: u64 = 0;
     for _ in 0..ROUNDS {
@@ -140,6 +147,8 @@ pub fn deliver_once<R: Wait, G: Gate>(
     requires { IsAt site.now pass.old }
     ensures own { IsAt site.now pass.new }
     ensures number { number_of pass.new ≡ number_of pass.old }
+    ensures work { HasWorked (layout_in site.now.names site.now.limit) IsRun (writer_of pass.old)
+        (writer_of pass.new) }
 {
     let checked = topic(alloc, site.names(), bytes)?;
     run(rt, alloc, site, pass, &checked, gate)
@@ -156,6 +165,8 @@ pub fn deliver_all<R: Wait>(
     requires { IsAt site.now pass.old }
     ensures own { IsAt site.now pass.new }
     ensures number { number_of pass.new ≡ number_of pass.old }
+    ensures work { HasWorked (layout_in site.now.names site.now.limit) IsRun (writer_of pass.old)
+        (writer_of pass.new) }
 {
     let checked = topic(alloc, site.names(), FIRST)?;
     deliver_until(rt, alloc, site, pass, &checked, wanted)

@@ -1,6 +1,7 @@
 // A worker that puts documents.
 ghost use Rattle.std.specs.Prelude.{◌≡◌};
-ghost use Rattle.running_site.specs.Passes.{number_of};
+ghost use Rattle.running_site.specs.Passes.{layout_in, number_of, writer_of};
+ghost use Rattle.site_threads.specs.Work.{HasWorked, IsUpdateBy};
 ghost use Rattle.site_threads.specs.Workers.{IsAt};
 
 use running_site::{Pass, Site};
@@ -21,6 +22,8 @@ pub fn index_writes<R: Wait>(
     requires { IsAt site.now pass.old }
     ensures own { IsAt site.now pass.new }
     ensures number { number_of pass.new ≡ number_of pass.old }
+    ensures work { HasWorked (layout_in site.now.names site.now.limit)
+        (IsUpdateBy collection.now writes) (writer_of pass.old) (writer_of pass.new) }
 {
     if shards_of(site.names(), collection.as_str()) == 0 || !are_storable_writes(&writes) {
         return None;

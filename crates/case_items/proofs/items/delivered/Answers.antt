@@ -5,8 +5,8 @@ use Rattle.shard_versions.specs.Documents.{source_name, source_version_name}
 use Rattle.case_items.proofs.FieldLemmas.{delivered-is, put-is}
 use Rattle.case_items.proofs.items.delivered.Goals as goal
 
-pub returns : goal.returns
-returns c doc e =
+pub returns-clause-from : goal.returns-clause-from
+returns-clause-from c doc e =
     let source = put-is c.remove.new.self c.put.new.self source_name c.in_ok-of.field-0
     (text c.args.src.now) (text c.in_ok-of-2.field-0) c.in_ok-put.ensures.ok c.in_ok-of.ensures
     (ap text (c.in_ok-of-2.ensures ∙ c.as_str.ensures)) in

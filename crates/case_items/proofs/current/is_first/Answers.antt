@@ -1,5 +1,5 @@
 use Rattle.case_items.proofs.CellLemmas.{first-cell}
-use Rattle.case_items.proofs.items.is_first.Goals as goal
+use Rattle.case_items.proofs.current.is_first.Goals as goal
 
 pub returns-in-Some : goal.returns-in-Some
 returns-in-Some c =
