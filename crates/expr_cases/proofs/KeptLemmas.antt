@@ -1,5 +1,5 @@
 -- What every board keeps of its daemons, it keeps whatever it is asked.
-use Rattle.std.proofs.Common.{◌≡◌, Some, sym, ap, subst, inl, inr}
+use Rattle.std.proofs.Common.{◌≡◌, Some, sym, ap, subst}
 use Rattle.std.specs.Prelude.{Result, Ok, Err, unwrap_or}
 use Rattle.tuple_values.specs.declared.memory.Memory.{Memory}
 use Rattle.daemon_board.specs.Boards.{Told}
@@ -32,5 +32,4 @@ said_kept a b o (starts id t interval terminate) kept s =
 pub asked_kept : (a b : Told) (ask : Ask) (r : Result Outcome Memory) → IsKept a.shown
     → IsAsked ask (state_of a) (state_of b) r → IsKept b.shown
 asked_kept a b ask (Ok o) kept s = said_kept a b o ask kept s
-asked_kept a b ask (Err memory) kept (inl same) = same_kept a b same kept
-asked_kept a b ask (Err memory) kept (inr s) = said_kept a b s.0 ask kept s.1
+asked_kept a b ask (Err memory) kept same = same_kept a b same kept

@@ -12,6 +12,8 @@ mod of_json_text;
 #[cfg(test)]
 mod of_kernel_laws;
 #[cfg(test)]
+mod of_server_edge;
+#[cfg(test)]
 mod of_texts;
 #[cfg(test)]
 mod of_tuple_values;
