@@ -14,6 +14,7 @@ use Rattle.expr_types.specs.ExprTree.{ExprTree, node, ExprTrees, no_exprs, an_ex
 use Rattle.expr_types.specs.Names.{function_name}
 use Rattle.expr_types.specs.Plain.{is_plain, are_plain}
 use Rattle.expr_types.specs.Rules.{rule_of}
+use Rattle.expr_check.specs.Held.{IsFaultless}
 use Rattle.expr_check.specs.Needs.{meets_sort, meets_names}
 use Rattle.expr_check.specs.Faults.{field_outside, field_fault, order_fault, names_fault, sort_fault}
 use Rattle.expr_check.specs.Faults.{names_text, sort_text, place_fault, first_unknown, unknown_fault}
@@ -40,7 +41,7 @@ pub none_both : {T : Type 0} (a b : Option T) → a ≡ None → b ≡ None → 
 none_both a b e f = rw (e, f) refl
 
 -- both of two tests
-both : (a b : Bool) → a ≡ true → b ≡ true → (a && b) ≡ true
+pub both : (a b : Bool) → a ≡ true → b ≡ true → (a && b) ≡ true
 both a b e f = rw (e, f) refl
 
 -- a function without a fault has the order that it needs
@@ -109,6 +110,10 @@ mutual
       none_both (own_fault t) (own_faults ts)
       (fault_where-own roots place is_there t (none_first here rest e))
       (faults_where-own roots place is_there ts (none_second here rest e))
+
+-- what the check finds no fault of has none over its inputs
+pub faultless-own : (t : ExprTree) → IsFaultless t → own_fault t ≡ None
+faultless-own t f = fault_where-own f.roots f.place f.is_there t f.none
 
 -- a test of two lists is that of both
 all-append : {X : Type 0} (p : X → Bool) (xs ys : List X) → list_all p xs ≡ true

@@ -23,7 +23,7 @@ use Rattle.expr_check.specs.Parts.{parts_at}
 use Rattle.expr_check.specs.Splits.{Split}
 use Rattle.expr_check.specs.Rules.{runs_input, split_by, read_by, stands, place_in}
 use Rattle.expr_check.proofs.NeedLemmas.{and_first}
-use Rattle.expr_check.specs.Walk.{fault_at, fault_where, faults_where, own_fault}
+use Rattle.expr_check.specs.Walk.{fault_at, fault_where, faults_where}
 use Rattle.expr_check.specs.Walk.{searched_in, all_searched, collections_of}
 use Rattle.expr_check.specs.Walked.{AreWalked}
 use Rattle.expr_check.specs.Reads.{with_name}
@@ -34,7 +34,7 @@ use Rattle.expr_check.specs.declared.roots.Roots.{Roots}
 use Rattle.expr_check.specs.declared.roots.Roots.TheVariants.{Plain, All}
 use Rattle.expr_check.specs.declared.roots.Round.TheVariants.{Other}
 use Rattle.expr_check.specs.declared.walked.WalkedInputs.{WalkedInputs}
-use Rattle.expr_check.proofs.FaultLemmas.{none_first, none_second, stands_at, faults_where-own}
+use Rattle.expr_check.proofs.FaultLemmas.{none_first, none_second, stands_at}
 use Rattle.expr_check.proofs.ReadLemmas.{collections_of-parts}
 
 -- one more expression, of which it is held too
@@ -67,7 +67,7 @@ parts_held (Parallels parts ∷ ws) (t ∷ ts) hs n =
     ∙ ap (λ (l : List PartTree). parallels_of t ++ l) (parts_held ws ts hs.1 n.1)
 
 -- a place in a function that doesn't run its input
-abbrev elsewhere : Bool → Place
+abbrev pub elsewhere : Bool → Place
 elsewhere deep = record { round = Other; in_parallel = deep }
 
 -- what stands there runs no input
@@ -171,17 +171,31 @@ only_reads op e none =
     ∙ ap once (append-nil (searched_in e))
 
 -- what is found of an only input
-pub only_found : (op : Operator) (e : ExprTree) (walked : WalkedInputs) (withins : List Within)
+only_found : (op : Operator) (e : ExprTree) (walked : WalkedInputs) (withins : List Within)
     → AreFound walked withins (node op (an_expr e no_exprs)) → read_by op ≡ []
     → IsFound walked withins e
 only_found op e walked withins f none = record {
   planned = (f.planned.0.1.1.0, omega (arith, f.planned.1));
-  faultless = none_first (own_fault e) None f.faultless;
+  faultless =
+      let none = f.faultless in
+      record {
+        roots = none.roots;
+        place = none.place;
+        is_there = none.is_there;
+        none = none_first (fault_where none.roots none.place none.is_there e) None none.none;
+      };
   order = f.told.orders;
   fields = f.told.fields;
   reads = f.reads ∙ only_reads op e none;
   held = f.held;
 }
+
+-- the same of the only input of what is such an expression
+pub input_found : (op : Operator) (t e : ExprTree) (walked : WalkedInputs) (withins : List Within)
+    → AreFound walked withins t → t ≡ node op (an_expr e no_exprs) → read_by op ≡ []
+    → IsFound walked withins e
+input_found op t e walked withins f is none =
+    only_found op e walked withins (subst (AreFound walked withins) is f) none
 
 -- an input of what a plan gives is so
 planned_in : (exprs : List ExprTree) (k : ℕ) (e : ExprTree) → k < length exprs
@@ -221,7 +235,12 @@ found_below roots place inner is_there t walked withins planned found reads at f
     ap (λ (p : Place). faults_where roots p is_there inputs) (sym at) ∙ sym fault ∙ none in
     record {
       planned = planned;
-      faultless = faults_where-own roots (place_in op place) is_there inputs faultless;
+      faultless = record {
+        roots = roots;
+        place = place_in op place;
+        is_there = is_there;
+        none = faultless;
+      };
       told = found;
       reads = reads ∙ sym (collections_of-parts t);
       held = held none;

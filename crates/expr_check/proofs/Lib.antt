@@ -13,4 +13,5 @@ pub mod FieldLemmas
 pub mod JoinLemmas
 pub mod LawLemmas
 pub mod HoldLemmas
+pub mod RootLemmas
 pub mod SendLemmas

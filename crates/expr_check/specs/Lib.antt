@@ -15,3 +15,4 @@ pub mod Views
 pub mod Held
 pub mod Lower
 pub mod Law
+pub mod Roots

@@ -6,7 +6,7 @@ ghost use Rattle.expr_types.specs.Plain.{IsPlain};
 ghost use Rattle.expr_types.specs.Planned.{IsPlanned};
 ghost use Rattle.expr_types.specs.Rules.{Collections};
 ghost use Rattle.expr_check.specs.Fields.{HaveOnly};
-ghost use Rattle.expr_check.specs.Held.{IsHeld};
+ghost use Rattle.expr_check.specs.Held.{IsFaultless, IsHeld};
 ghost use Rattle.expr_check.specs.Orders.{IsInOrder};
 ghost use Rattle.expr_check.specs.Parts.{input_of, parallels_of};
 ghost use Rattle.expr_check.specs.Reads.{are_known};
@@ -103,7 +103,7 @@ impl Checked {
         within: Within,
     ) -> Checked
         requires planned { IsPlanned (expr_tree expr) }
-        requires faultless { own_fault (expr_tree expr) ≡ None }
+        requires faultless { IsFaultless (expr_tree expr) }
         requires ordered { order ≡ order_of (expr_tree expr) }
         requires named { fields ≡ fields_of (expr_tree expr) }
         requires reads { collections ≡ collections_of (expr_tree expr) }
@@ -126,6 +126,9 @@ impl Checked {
 
         // Its functions have no fault over their inputs.
         ensures faultless { own_fault (tree_of self.now) ≡ None }
+
+        // The check found no fault of it where it stands.
+        ensures placed { IsFaultless (tree_of self.now) }
 
         // Where it only reads, each input has the order that its function needs, whatever the
         // documents are.

@@ -4,6 +4,8 @@
 #[cfg(test)]
 mod of_daemon_board;
 #[cfg(test)]
+mod of_expr_check;
+#[cfg(test)]
 mod of_expr_text;
 #[cfg(test)]
 mod of_expr_types;

@@ -1,5 +1,5 @@
 use Rattle.std.proofs.Common.{◌<◌, ◌+◌, ◌++◌, [], ◌∙◌, refl, ap, sym, subst, length, drop, take}
-use Rattle.std.proofs.Common.{Bool, arith, fold, List, Option}
+use Rattle.std.proofs.Common.{Bool, arith, fold, List}
 use Rattle.std.specs.Option.{option_or}
 use Rattle.tuple_values.specs.Collections.{is_known}
 use Rattle.tuple_values.specs.Document.{ByteList}
@@ -7,16 +7,14 @@ use Rattle.sort_spec.specs.Texts.{once}
 use Rattle.expr_types.specs.ExprTree.{inputs_in, inputs_of, expr_tree, operator_in}
 use Rattle.expr_check.specs.Held.{AreHeld, IsHeld}
 use Rattle.expr_check.specs.Reads.{with_name}
-use Rattle.expr_types.specs.Names.{function_name}
-use Rattle.expr_check.specs.Rules.{read_by, fields_given}
+use Rattle.expr_check.specs.Rules.{read_by}
 use Rattle.expr_check.specs.Walk.{order_of, orders_of, fields_of, all_fields, keys_of, all_keys}
-use Rattle.expr_check.specs.Walk.{unkeyed, keyless_of, keyless_in, faults_where, all_searched, searched_in}
+use Rattle.expr_check.specs.Walk.{keyless_of, keyless_in, faults_where, all_searched, searched_in}
 use Rattle.expr_check.specs.declared.checked.Within.{Within}
 use Rattle.expr_check.proofs.FaultLemmas.{none_first, none_second}
 use Rattle.expr_check.proofs.HoldLemmas.{found_below, held_next, planned_input}
 use Rattle.expr_check.proofs.ReadLemmas.{collections_of-parts, reads_more, once-once}
-use Rattle.expr_check.proofs.WalkLemmas.{fault_found, order_of-parts, fields_of-parts}
-use Rattle.expr_check.proofs.WalkLemmas.{keys_of-parts, keyless_of-parts}
+use Rattle.expr_check.proofs.WalkLemmas.{fault_found}
 use Rattle.expr_check.proofs.WalkLemmas.{inputs_more, firsts_more, faults_more}
 use Rattle.expr_check.proofs.walk.+walking.Goals as goal
 

@@ -1,4 +1,4 @@
-use Rattle.std.proofs.Common.{◌≡◌, ◌∙◌, List, Option, ap, sym}
+use Rattle.std.proofs.Common.{◌∙◌, List, Option, ap, sym}
 use Rattle.std.specs.Option.{option_or}
 use Rattle.tuple_values.specs.Document.{ByteList}
 use Rattle.expr_types.specs.ExprTree.{expr_tree, inputs_in, inputs_of, operator_in}
