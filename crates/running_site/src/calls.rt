@@ -12,7 +12,8 @@ ghost use Rattle.site_laws.specs.Duties.{MaySend};
 ghost use Rattle.site_laws.specs.Looks.{AreStoresSeen};
 ghost use Rattle.site_laws.specs.SiteCells.{histories_in};
 ghost use Rattle.tuple_values.specs.Document.{ByteList};
-ghost use Rattle.running_site.specs.Passes.{layout_in, number_of, sight_of, writer_of, IsPassOf};
+ghost use Rattle.running_site.specs.Passes.{number_of, sight_of, writer_of};
+ghost use Rattle.running_site.specs.Sites.{layout_at, IsPassAt};
 
 use crate::{Pass, SiteOf};
 use exchange_rules::{Batch, Sent, SiteFault};
@@ -44,12 +45,8 @@ impl SiteOf<SiteCell> {
         pass: &mut Pass,
         collections: &FieldList,
     ) -> Result<Cut, SiteFault>
-        requires { IsPassOf self.now.table.board.shared.table_id
-            self.now.table.board.shared.key
-            (layout_in self.now.names self.now.limit) pass.old }
-        ensures own { IsPassOf self.now.table.board.shared.table_id
-            self.now.table.board.shared.key
-            (layout_in self.now.names self.now.limit) pass.new }
+        requires { IsPassAt self.now pass.old }
+        ensures own { IsPassAt self.now pass.new }
         ensures number { number_of pass.new ≡ number_of pass.old }
         ensures course { Completed (writer_of pass.old) (writer_of pass.new)
             (cut_course self.now.names [] collections.now) result }
@@ -74,17 +71,13 @@ impl SiteOf<SiteCell> {
         writes: Writes,
         commit: bool,
     ) -> Result<u64, SiteFault>
-        requires own { IsPassOf self.now.table.board.shared.table_id
-            self.now.table.board.shared.key
-            (layout_in self.now.names self.now.limit) pass.old }
+        requires own { IsPassAt self.now pass.old }
         requires known { 0 < shards_of self.now.names collection.now }
         requires storable { AreStorableWrites writes }
-        ensures own { IsPassOf self.now.table.board.shared.table_id
-            self.now.table.board.shared.key
-            (layout_in self.now.names self.now.limit) pass.new }
+        ensures own { IsPassAt self.now pass.new }
         ensures number { number_of pass.new ≡ number_of pass.old }
         ensures course { Answered (writer_of pass.old) (writer_of pass.new)
-            (index_course (layout_in self.now.names self.now.limit) collection.now writes commit)
+            (index_course (layout_at self.now) collection.now writes commit)
             result }
     {
         let mut visit = self.visit(rt, pass);
@@ -101,15 +94,11 @@ impl SiteOf<SiteCell> {
         pass: &mut Pass,
         collection: &Text,
     ) -> Result<(), SiteFault>
-        requires { IsPassOf self.now.table.board.shared.table_id
-            self.now.table.board.shared.key
-            (layout_in self.now.names self.now.limit) pass.old }
-        ensures own { IsPassOf self.now.table.board.shared.table_id
-            self.now.table.board.shared.key
-            (layout_in self.now.names self.now.limit) pass.new }
+        requires { IsPassAt self.now pass.old }
+        ensures own { IsPassAt self.now pass.new }
         ensures number { number_of pass.new ≡ number_of pass.old }
         ensures course { Answered (writer_of pass.old) (writer_of pass.new)
-            (commit_course (layout_in self.now.names self.now.limit) collection.now) result }
+            (commit_course (layout_at self.now) collection.now) result }
     {
         let mut visit = self.visit(rt, pass);
         let result = commit_all_over(alloc, &mut visit, collection);
@@ -128,17 +117,13 @@ impl SiteOf<SiteCell> {
         src: &Text,
         batch: Batch,
     ) -> Result<Sent, SiteFault>
-        requires own { IsPassOf self.now.table.board.shared.table_id
-            self.now.table.board.shared.key
-            (layout_in self.now.names self.now.limit) pass.old }
+        requires own { IsPassAt self.now pass.old }
         requires true_items { MaySend self.now.names (writer_of pass.old).seen dest.now src.now
             batch }
-        ensures own { IsPassOf self.now.table.board.shared.table_id
-            self.now.table.board.shared.key
-            (layout_in self.now.names self.now.limit) pass.new }
+        ensures own { IsPassAt self.now pass.new }
         ensures number { number_of pass.new ≡ number_of pass.old }
         ensures course { Answered (writer_of pass.old) (writer_of pass.new)
-            (send_course (layout_in self.now.names self.now.limit) dest.now src.now batch) result }
+            (send_course (layout_at self.now) dest.now src.now batch) result }
     {
         let mut visit = self.visit(rt, pass);
         let result = send_over(alloc, &mut visit, dest, src, batch);
@@ -154,12 +139,8 @@ impl SiteOf<SiteCell> {
         pass: &mut Pass,
         key: &TopicKey,
     ) -> Result<Option<Versions>, SiteFault>
-        requires { IsPassOf self.now.table.board.shared.table_id
-            self.now.table.board.shared.key
-            (layout_in self.now.names self.now.limit) pass.old }
-        ensures own { IsPassOf self.now.table.board.shared.table_id
-            self.now.table.board.shared.key
-            (layout_in self.now.names self.now.limit) pass.new }
+        requires { IsPassAt self.now pass.old }
+        ensures own { IsPassAt self.now pass.new }
         ensures number { number_of pass.new ≡ number_of pass.old }
         ensures course { Completed (writer_of pass.old) (writer_of pass.new)
             (topic_state_course self.now.names key.now) result }
@@ -180,14 +161,10 @@ impl SiteOf<SiteCell> {
         key: &TopicKey,
         binding: Binding,
     ) -> Result<Versions, SiteFault>
-        requires own { IsPassOf self.now.table.board.shared.table_id
-            self.now.table.board.shared.key
-            (layout_in self.now.names self.now.limit) pass.old }
+        requires own { IsPassAt self.now pass.old }
         requires on { IsOnCollections self.now.names key.now binding }
         requires readable { IsReadable binding.q }
-        ensures own { IsPassOf self.now.table.board.shared.table_id
-            self.now.table.board.shared.key
-            (layout_in self.now.names self.now.limit) pass.new }
+        ensures own { IsPassAt self.now pass.new }
         ensures number { number_of pass.new ≡ number_of pass.old }
         ensures course { Answered (writer_of pass.old) (writer_of pass.new)
             (bind_course self.now.names key.now binding) result }
@@ -207,14 +184,10 @@ impl SiteOf<SiteCell> {
         key: &TopicKey,
         upto: Versions,
     ) -> Result<(), SiteFault>
-        requires own { IsPassOf self.now.table.board.shared.table_id
-            self.now.table.board.shared.key
-            (layout_in self.now.names self.now.limit) pass.old }
+        requires own { IsPassAt self.now pass.old }
         requires delivered { MayStore self.now.names
             (histories_in self.now.names (writer_of pass.old).seen) key.now upto }
-        ensures own { IsPassOf self.now.table.board.shared.table_id
-            self.now.table.board.shared.key
-            (layout_in self.now.names self.now.limit) pass.new }
+        ensures own { IsPassAt self.now pass.new }
         ensures number { number_of pass.new ≡ number_of pass.old }
         ensures course { Answered (writer_of pass.old) (writer_of pass.new)
             (store_course self.now.names key.now upto) result }

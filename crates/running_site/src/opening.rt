@@ -5,7 +5,8 @@ ghost use Rattle.once_core.specs.Law.{IsLaw};
 ghost use Rattle.exchange_rules.specs.Cells.{author_of};
 ghost use Rattle.turn_table.specs.Histories.{GrewBy};
 ghost use Rattle.stream_site.specs.Plains.{logs_in};
-ghost use Rattle.running_site.specs.Passes.{layout_in, new_writer, number_of, numbers_to, writer_of, IsPassOf};
+ghost use Rattle.running_site.specs.Passes.{new_writer, number_of, numbers_to, writer_of};
+ghost use Rattle.running_site.specs.Sites.{IsPassAt};
 
 use crate::empty::empty_cells;
 use crate::numbers::numbers_to;
@@ -33,8 +34,7 @@ impl SiteOf<SiteCell> {
         requires limit { limit ≤ 268435456 }
         ensures site { IfOk result (λ made. (made.0.names ≡ names) × (made.0.limit ≡ limit)
             × (made.0.passes ≡ passes)) }
-        ensures own { IfOk result (λ made. All (IsPassOf made.0.table.board.shared.table_id
-            made.0.table.board.shared.key (layout_in made.0.names made.0.limit)) made.1) }
+        ensures own { IfOk result (λ made. All (IsPassAt made.0) made.1) }
         ensures new { IfOk result (λ made. map writer_of made.1
             ≡ map (new_writer names) (numbers_to passes)) }
     {
@@ -56,9 +56,7 @@ impl SiteOf<SiteCell> {
 
     /// Ends the site, and gives its histories. It takes all passes that were made for it.
     pub fn close(self, alloc: Global, passes: Passes) -> Result<Histories, Memory>
-        requires own { All (IsPassOf self.table.board.shared.table_id
-            self.table.board.shared.key
-            (layout_in self.names self.limit)) passes }
+        requires own { All (IsPassAt self) passes }
         requires all { All (λ number. Contains (map number_of passes) number)
             (numbers_to self.passes) }
         ensures law { IfOk result (λ histories. IsLaw self.names histories) }

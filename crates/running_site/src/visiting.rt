@@ -1,7 +1,8 @@
 // How a pass comes to its site for a call, and goes.
 ghost use Rattle.std.specs.Prelude.{◌≡◌, None};
 ghost use Rattle.turn_table.specs.Calls.{known};
-ghost use Rattle.running_site.specs.Passes.{layout_in, sight_in, sight_of, writer_in, writer_of, IsPassOf};
+ghost use Rattle.running_site.specs.Passes.{sight_in, sight_of, writer_in, writer_of};
+ghost use Rattle.running_site.specs.Sites.{IsPassAt};
 
 use crate::visit::Visit;
 use crate::{Pass, Site, SiteOf};
@@ -12,9 +13,7 @@ impl SiteOf<SiteCell> {
     /// The pass with its record comes to the site, for calls over a writer's turns. It is away from
     /// its holder until the visit ends, and no call of the site takes it before.
     pub fn visit<'a, R>(&'a self, rt: &'a R, pass: &mut Pass) -> Visit<'a, R>
-        requires { IsPassOf self.now.table.board.shared.table_id
-            self.now.table.board.shared.key
-            (layout_in self.now.names self.now.limit) pass.old }
+        requires { IsPassAt self.now pass.old }
         ensures site { result.site.now ≡ self.now }
         ensures free { result.turn ≡ None }
         ensures writer { writer_in (known result.pass) result.marks.items result.own.items
@@ -44,9 +43,7 @@ impl<R> Visit<'_, R> {
     /// turns gives its last one back, and so does `leave`.
     pub fn end(self, pass: &mut Pass)
         requires { self.turn ≡ None }
-        ensures own { IsPassOf self.entry.site.now.table.board.shared.table_id
-            self.entry.site.now.table.board.shared.key
-            (layout_in self.entry.site.now.names self.entry.site.now.limit) pass.new }
+        ensures own { IsPassAt self.entry.site.now pass.new }
         ensures writer { writer_of pass.new ≡ writer_in (known self.entry.pass)
             self.entry.marks.items self.entry.own.items }
         ensures sight { sight_of pass.new ≡ sight_in (known self.entry.pass) }

@@ -98,7 +98,7 @@ impl<R> Visit<'_, R> {
             (known self.old.pass).seen cell sealing }
         ensures site { self.new.site.now ≡ self.old.site.now }
         ensures holds { HasTurn self.new.turn cell }
-        ensures marks { self.new.marks.items ≡ self.old.marks.items }
+        ensures marks { self.new.marks ≡ self.old.marks }
         ensures ok { OnOk result (IsSealed (known self.old.pass) (known self.new.pass)
             self.old.own.items self.new.own.items cell sealing) }
         ensures err { OnErr result ((known self.new.pass ≡ known self.old.pass)
@@ -130,6 +130,7 @@ impl<R> Visit<'_, R> {
             (known self.old.pass).seen cell (Sealing.Shard step) }
         ensures site { self.new.site.now ≡ self.old.site.now }
         ensures holds { HasTurn self.new.turn cell }
+        ensures marks { self.new.marks ≡ self.old.marks }
         ensures ok { OnOk result
             (writer_in (known self.new.pass) self.new.marks.items self.new.own.items
             ≡ made (writer_in (known self.old.pass) self.old.marks.items self.old.own.items) cell
@@ -149,7 +150,7 @@ impl<R> Visit<'_, R> {
 }
 
 impl<R: Wait> Turns for Visit<'_, R> {
-    ghost use Rattle.std.specs.Prelude.{◌≡◌, None};
+    ghost use Rattle.std.specs.Prelude.{◌≡◌, ◌-◌, None, vec_capacity, vec_len};
     ghost use Rattle.std.proofs.Common.{refl, ap, ◌∙◌};
     ghost use Rattle.turn_table.specs.Calls.{known};
     ghost use Rattle.site_laws.specs.Looks.{IsLater};
@@ -164,6 +165,8 @@ impl<R: Wait> Turns for Visit<'_, R> {
     ghost writer = { λ v. writer_in (known v.pass) v.marks.items v.own.items };
 
     ghost layout = { λ v. layout_in v.site.now.names v.site.now.limit };
+
+    ghost room = { λ v. vec_capacity v.marks - vec_len v.marks };
 
     ghost holds = { λ v cell. HasTurn v.turn cell };
 

@@ -1,18 +1,16 @@
 -- The law at a site of one writer, as steps and entries are appended.
-use Rattle.std.proofs.Common.{◌≡◌, ℕ, zero, suc, ◌+◌, ◌<◌, List, [], ◌∷◌, ◌++◌, length, get_or, set, map, refl, sym, ap, ◌∙◌, subst, arith, append-nil}
+use Rattle.std.proofs.Common.{◌≡◌, ℕ, zero, suc, ◌+◌, ◌<◌, List, [], ◌∷◌, ◌++◌, length, get_or, set, refl, sym, ap, ◌∙◌, subst, arith, append-nil}
 use Rattle.std.specs.Prelude.{replicate}
 use Rattle.std.proofs.lemmas.List.{length-map}
 use Rattle.tuple_values.specs.declared.names.NameShards.{NameShards}
-use Rattle.shard_versions.specs.Histories.{History}
 use Rattle.shard_versions.specs.Shards.{Shard}
 use Rattle.shard_versions.specs.declared.entry.Entry.{Entry}
 use Rattle.topic_book.specs.Books.{Book}
 use Rattle.topic_book.specs.Cells.{cells_in}
 use Rattle.topic_book.specs.declared.topic.BookEntry.{BookEntry}
-use Rattle.exchange_rules.specs.Cells.{Log, log_of}
-use Rattle.exchange_rules.specs.declared.log_entry.LogEntry.TheVariants as logged
+use Rattle.exchange_rules.specs.Cells.{Log}
 use Rattle.site_laws.specs.Duties.{MayAppendEntry}
-use Rattle.site_laws.specs.Laws.{HasSeen, with_more}
+use Rattle.site_laws.specs.Laws.{HasSeen}
 use Rattle.site_laws.specs.Sealings.{MayAppend}
 use Rattle.site_laws.specs.SiteCells.{IsLawful}
 use Rattle.site_laws.specs.declared.sealing.Sealing.TheVariants as sealing

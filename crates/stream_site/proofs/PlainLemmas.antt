@@ -13,7 +13,7 @@ use Rattle.shard_versions.specs.declared.entry.Entry.{Entry}
 use Rattle.shard_versions.specs.declared.cut.OwnMark.{OwnMark}
 use Rattle.topic_book.specs.Cells.{cells_in}
 use Rattle.topic_book.specs.Books.{Book}
-use Rattle.exchange_rules.specs.Cells.{Log, log_of, log_of_book, history_in, signed, write}
+use Rattle.exchange_rules.specs.Cells.{Log, log_of, log_of_book, history_in, write}
 use Rattle.exchange_rules.specs.Courses.{appended}
 use Rattle.exchange_rules.specs.Following.{Writer}
 use Rattle.exchange_rules.specs.Primitives.{made}

@@ -4,3 +4,4 @@ pub mod Sites
 pub mod Topics
 pub mod Spots
 pub mod Stores
+pub mod Rooms

@@ -13,7 +13,8 @@ use Rattle.exchange_rules.specs.Following.{Writer}
 use Rattle.exchange_rules.specs.Rows.{Layout}
 
 -- the collections, the limit on each shard, the shards' histories in the order of cells, the book,
--- the record, and how often each cell was looked at, of which the last is the book's
+-- the record, for how many looks there is room in it, and how often each cell was looked at, of
+-- which the last is the book's
 pub record Plain : Type 0 where
   pub names : List NameShards
   pub limit : ℕ
@@ -21,6 +22,7 @@ pub record Plain : Type 0 where
   pub book : Book
   pub marks : List CutMark
   pub own : List OwnMark
+  pub room : ℕ
   pub looks : List ℕ
 
 -- the logs of the shards' cells and of the book's
@@ -50,12 +52,13 @@ empty_site names limit = record {
   book = [];
   marks = [];
   own = [];
+  room = 0;
   looks = replicate (cells_in names + 1) 0;
 }
 
--- with nothing in its record
+-- with nothing in its record, and no room there
 abbrev pub unrecorded : Plain → Plain
-unrecorded p = record p { marks = []; own = [] }
+unrecorded p = record p { marks = []; own = []; room = 0 }
 
 -- so many shards of no entry, with this limit
 pub record AreEmpty (limit count : ℕ) (shards : List Shard) : Type 0 where

@@ -1,5 +1,5 @@
 -- When what a site of one writer keeps is right (own).
-use Rattle.std.specs.Prelude.{ℕ, ◌^◌, ◌≡◌, ◌+◌, ◌<◌, [], get_or, length, map}
+use Rattle.std.specs.Prelude.{ℕ, ◌^◌, ◌≡◌, ◌+◌, ◌-◌, ◌<◌, [], get_or, length, map, vec_capacity, vec_len}
 use Rattle.std.specs.List.{AllByRecursion}
 use Rattle.shard_versions.specs.Shards.{Shard}
 use Rattle.topic_book.specs.Cells.{cells_in}
@@ -21,6 +21,7 @@ plain_in s = record {
   book = s.book.entries;
   marks = s.marks.items;
   own = s.own.items;
+  room = vec_capacity s.marks - vec_len s.marks;
   looks = s.looks.items;
 }
 

@@ -269,6 +269,7 @@ impl PlainSite {
         ensures shard_full { IsErrOf result ShardFault.ShardFull
             ↔ (is_full self.old.limit (history_in (get_or (writer_of self.old).seen cell []))
             (kinds_of step) ≡ true) }
+        ensures room { self.new.room ≡ self.old.room }
         ensures layout { layout_of self.new ≡ layout_of self.old }
     {
         let shard = &mut self.shards[cell as usize];
@@ -311,6 +312,8 @@ impl Turns for PlainSite {
     ghost writer = { writer_of };
 
     ghost layout = { layout_of };
+
+    ghost room = { λ p. p.room };
 
     ghost holds = { λ _ _. Unit {0} };
 

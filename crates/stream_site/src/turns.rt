@@ -7,7 +7,7 @@ use tuple_values::{Memory, Names, Versions};
 /// A writer of a site. What a call does is written over looks, and over what is appended where the
 /// writer has looked.
 pub trait Turns {
-    ghost use Rattle.std.specs.Prelude.{ℕ, ◌≡◌, ◌+◌, ◌<◌, ◌^◌, ◌↔◌, [], ◌∷◌, false, true, length, map, get_or, option_copied, IfErr, IfOk, OnOk, OnErr, IsErrOf};
+    ghost use Rattle.std.specs.Prelude.{ℕ, ◌≡◌, ◌+◌, ◌<◌, ◌≤◌, ◌^◌, ◌↔◌, [], ◌∷◌, false, true, length, map, get_or, option_copied, IfErr, IfOk, OnOk, OnErr, IsErrOf};
     ghost use Rattle.shard_versions.specs.Histories.{is_pending};
     ghost use Rattle.topic_book.specs.Books.{binding_of, checkpoints, raises};
     ghost use Rattle.topic_book.specs.Cells.{cells_in};
@@ -23,6 +23,7 @@ pub trait Turns {
     ghost use Rattle.exchange_rules.specs.Steps.{is_full, is_over, kinds_of};
     ghost use Rattle.site_laws.specs.Duties.{MayDeliver, MayAppendEntry, MayWrite};
     ghost use Rattle.site_laws.specs.SiteCells.{histories_in};
+    ghost use Rattle.stream_site.specs.Rooms.{MayWant};
 
     /// Where the writer is: it stays there.
     type Home;
@@ -34,6 +35,9 @@ pub trait Turns {
 
     /// The collections, and the limit on each shard.
     ghost layout: { Self → Layout };
+
+    /// For how many looks there is room in the record.
+    ghost room: { Self → ℕ };
 
     /// The writer has this cell's turn: what it has seen of the cell is all that there is.
     ghost holds: { Self → ℕ → Type 0 };
@@ -59,28 +63,36 @@ pub trait Turns {
         ensures { result ≡ (writer self.now).me };
 
     /// Makes room in the record for so many looks, so that none of them wants memory while the
-    /// writer has a turn. A writer that has a turn gives it back first.
+    /// writer has a turn. There is no less room than before, after an `Err` too. A writer that has
+    /// a turn gives it back first.
     fn make_room(&mut self, looks: usize) -> Result<(), Memory>
+        ensures ok { OnOk result (looks ≤ room self.new) }
+        ensures room { room self.old ≤ room self.new }
         ensures writer { writer self.new ≡ writer self.old }
         ensures layout { layout self.new ≡ layout self.old }
         ensures home { home self.new ≡ home self.old }
         ensures later { later self.old self.new };
 
     /// Gives back the turn that the writer has, if any, takes the cell's and looks. Entries of
-    /// others may have come since it was seen.
+    /// others may have come since it was seen. It wants memory only where there was no room for a
+    /// look, or where the looks at the cell can't be counted any further, and it takes up the room
+    /// of one look at most.
     fn look(&mut self, cell: u32) -> Result<(), Memory>
         requires { cell < length (writer self.old).seen }
         ensures ok { OnOk result (LooksAt (writer self.old) (writer self.new) cell) }
         ensures holds { OnOk result (holds self.new cell) }
         ensures err { OnErr result (writer self.new ≡ writer self.old) }
+        ensures cause { OnErr result (MayWant (room self.old) (writer self.old) cell) }
+        ensures room { room self.old ≤ room self.new + 1 }
         ensures layout { layout self.new ≡ layout self.old }
         ensures home { home self.new ≡ home self.old }
         ensures later { later self.old self.new };
 
-    /// Gives back the turn that the writer has, if any.
+    /// Gives back the turn that the writer has, if any. The room for looks stays.
     fn leave(&mut self)
         ensures writer { writer self.new ≡ writer self.old }
         ensures free { free self.new }
+        ensures room { room self.new ≡ room self.old }
         ensures layout { layout self.new ≡ layout self.old }
         ensures home { home self.new ≡ home self.old }
         ensures later { later self.old self.new };
@@ -98,7 +110,8 @@ pub trait Turns {
         ensures { IfOk result
             (λ s. s ≡ shown_of (history_in (get_or (writer self.now).seen cell []))) };
 
-    /// Appends the writer's step right behind what it has seen of the cell.
+    /// Appends the writer's step right behind what it has seen of the cell. The room for looks
+    /// stays.
     fn seal(&mut self, cell: u32, step: Step) -> Result<(), ShardFault>
         requires in_range { HasCell (layout self.old) (writer self.old) cell }
         requires holds { holds self.old cell }
@@ -110,12 +123,14 @@ pub trait Turns {
         ensures shard_full { IsErrOf result ShardFault.ShardFull
             ↔ (is_full (layout self.old).limit (history_in (get_or (writer self.old).seen cell []))
             (kinds_of step) ≡ true) }
+        ensures room { room self.new ≡ room self.old }
         ensures holds { holds self.new cell }
         ensures layout { layout self.new ≡ layout self.old }
         ensures home { home self.new ≡ home self.old };
 
     /// Appends those entries of a step of deliveries that what was seen of the cell admits, and a
-    /// Mark behind them; nothing where none is admitted. The answer is how many are.
+    /// Mark behind them; nothing where none is admitted. The answer is how many are. The room for
+    /// looks stays.
     fn deliver(&mut self, cell: u32, step: Step) -> Result<u64, ShardFault>
         requires in_range { HasCell (layout self.old) (writer self.old) cell }
         requires holds { holds self.old cell }
@@ -134,6 +149,7 @@ pub trait Turns {
             → is_over (layout self.old).limit (history_in (get_or (writer self.old).seen cell []))
             (admitted_kinds (history_in (get_or (writer self.old).seen cell [])) (kinds_of step))
             ≡ true }
+        ensures room { room self.new ≡ room self.old }
         ensures holds { holds self.new cell }
         ensures layout { layout self.new ≡ layout self.old }
         ensures home { home self.new ≡ home self.old };
@@ -160,7 +176,7 @@ pub trait Turns {
         ensures { result
             ≡ raises key.now (book_seen (layout self.now) (writer self.now)) upto.now };
 
-    /// Adds the writer's entry right behind what it has seen of the book.
+    /// Adds the writer's entry right behind what it has seen of the book. The room for looks stays.
     fn append_entry(&mut self, entry: BookEntry) -> Result<(), BookFault>
         requires holds { holds self.old (book_cell (layout self.old).names) }
         requires allowed { MayAppendEntry (layout self.old).names (writer self.old).me
@@ -171,12 +187,13 @@ pub trait Turns {
         ensures err { OnErr result (writer self.new ≡ writer self.old) }
         ensures cause { IfErr result
             (λ fault. IsCauseOf (book_seen (layout self.old) (writer self.old)) entry fault) }
+        ensures room { room self.new ≡ room self.old }
         ensures holds { holds self.new (book_cell (layout self.old).names) }
         ensures layout { layout self.new ≡ layout self.old }
         ensures home { home self.new ≡ home self.old };
 
     /// The looks and steps since the last such call, those of refused calls too. The record begins
-    /// anew.
+    /// anew, and how much room it has then isn't said.
     fn take_record(&mut self) -> Record
         ensures marks { result.marks ≡ (writer self.old).marks }
         ensures own { result.own ≡ (writer self.old).own }

@@ -1,4 +1,4 @@
-use Rattle.std.proofs.Common.{◌≡◌, map, sym, subst}
+use Rattle.std.proofs.Common.{◌≡◌, map, sym, ap, subst, vec_items}
 use Rattle.exchange_rules.specs.Cells.{history_in, write}
 use Rattle.exchange_rules.specs.Primitives.{made}
 use Rattle.exchange_rules.specs.Steps.{kinds_of}
@@ -18,7 +18,7 @@ returns-in-Ok-clause-ok g c =
     let w = c.append.new.self in
     subst (λ l. writer_in (known w.pass) l w.own.items
     ≡ made (writer_in (known v.pass) v.marks.items v.own.items) c.args.cell
-    (map write (kinds_of c.args.step))) (sym c.append.ensures.marks)
+    (map write (kinds_of c.args.step))) (sym (ap vec_items c.append.ensures.marks))
     (sealed-made (known v.pass) (known w.pass) v.marks.items v.own.items w.own.items c.args.cell
     (sealing.Shard c.args.step) (map write (kinds_of c.args.step)) c.in-Ok.ensures.ok
     (step-signed v.site.now.names (known v.pass).number (known v.pass).seen c.args.cell c.args.step

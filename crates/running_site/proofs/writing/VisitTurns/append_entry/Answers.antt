@@ -1,4 +1,4 @@
-use Rattle.std.proofs.Common.{◌≡◌, ◌-◌, ◌∷◌, [], sym, subst, arith}
+use Rattle.std.proofs.Common.{◌≡◌, ◌-◌, ◌∷◌, [], sym, ap, subst, arith, vec_items}
 use Rattle.topic_book.specs.Cells.{cells_in}
 use Rattle.topic_book.specs.States.{IsCauseOf, IsOpenTo}
 use Rattle.exchange_rules.specs.Cells.{book_in, payload_of}
@@ -38,7 +38,7 @@ returns-in-Ok-clause-ok g c =
     (payload_of c.args.entry ∷ [])) at_book
     (subst (λ l. writer_in (known w.pass) l w.own.items
     ≡ made (writer_in (known v.pass) v.marks.items v.own.items) (c.cells-cell.result - 1)
-    (payload_of c.args.entry ∷ [])) (sym c.append.ensures.marks)
+    (payload_of c.args.entry ∷ [])) (sym (ap vec_items c.append.ensures.marks))
     (sealed-made (known v.pass) (known w.pass) v.marks.items v.own.items w.own.items
     (c.cells-cell.result - 1) (sealing.Book c.args.entry) (payload_of c.args.entry ∷ [])
     c.in-Ok.ensures.ok
