@@ -1,2 +1,4 @@
 pub mod TallyLemmas
 pub mod PassLemmas
+pub mod SightLemmas
+pub mod StoreLemmas

@@ -2,9 +2,13 @@
 #![tactic(auto)]
 
 #[cfg(test)]
+mod calling;
+#[cfg(test)]
 mod making;
 #[cfg(test)]
 mod of_running_site;
+#[cfg(test)]
+mod of_site_calls;
 #[cfg(test)]
 mod of_stream_site;
 #[cfg(test)]

@@ -1,7 +1,8 @@
 // Tests of running_site: that each call that takes memory succeeds. Of two shards the second holds
 // id `2` and the first id `3`; a document of an id of one byte counts 43 bytes, and a Mark 16.
 ghost use Rattle.std.specs.Prelude.{◌≡◌, ◌≤◌, IfOk};
-ghost use Rattle.running_site.specs.Passes.{layout_in, number_of, IsPassOf};
+ghost use Rattle.running_site.specs.Passes.{number_of};
+ghost use Rattle.running_site.specs.Sites.{IsPassAt};
 
 use crate::making::{collections, names, puts};
 use crate::telling::{is_count, is_full, is_record};
@@ -16,9 +17,7 @@ use tuple_values::{Memory, Text};
 /// A site with one pass.
 fn alone(alloc: Global, shards: u16, limit: u64) -> Result<(Site, Pass), Fail>
     requires { limit ≤ 268435456 }
-    ensures own { IfOk result (λ made. IsPassOf made.0.table.board.shared.table_id
-        made.0.table.board.shared.key
-        (layout_in made.0.names made.0.limit) made.1) }
+    ensures own { IfOk result (λ made. IsPassAt made.0 made.1) }
     ensures number { IfOk result (λ made. number_of made.1 ≡ 1) }
     ensures passes { IfOk result (λ made. made.0.passes ≡ 1) }
 {
@@ -38,12 +37,8 @@ fn update<R: Wait>(
     pass: &mut Pass,
     id: &str,
 ) -> Result<Option<Result<u64, SiteFault>>, Memory>
-    requires { IsPassOf site.now.table.board.shared.table_id
-        site.now.table.board.shared.key
-        (layout_in site.now.names site.now.limit) pass.old }
-    ensures own { IsPassOf site.now.table.board.shared.table_id
-        site.now.table.board.shared.key
-        (layout_in site.now.names site.now.limit) pass.new }
+    requires { IsPassAt site.now pass.old }
+    ensures own { IsPassAt site.now pass.new }
     ensures number { number_of pass.new ≡ number_of pass.old }
 {
     let collection = Text::of(alloc, "c")?;
@@ -56,12 +51,8 @@ fn update<R: Wait>(
 
 // Whether a document is taken, and the next one finds the shard full.
 fn fills<R: Wait>(rt: &R, alloc: Global, site: &Site, pass: &mut Pass) -> Result<bool, Memory>
-    requires { IsPassOf site.now.table.board.shared.table_id
-        site.now.table.board.shared.key
-        (layout_in site.now.names site.now.limit) pass.old }
-    ensures own { IsPassOf site.now.table.board.shared.table_id
-        site.now.table.board.shared.key
-        (layout_in site.now.names site.now.limit) pass.new }
+    requires { IsPassAt site.now pass.old }
+    ensures own { IsPassAt site.now pass.new }
     ensures number { number_of pass.new ≡ number_of pass.old }
 {
     let counted = is_count(update(rt, alloc, site, pass, "1")?, 1);
@@ -84,8 +75,7 @@ fn entries_by(history: Option<&Step>, number: u64) -> usize {
 
 // Ends a site; how many entries the pass left in the first shard.
 fn entries_left(alloc: Global, site: Site, pass: Pass) -> Result<usize, Memory>
-    requires own { IsPassOf site.table.board.shared.table_id
-        site.table.board.shared.key (layout_in site.names site.limit) pass }
+    requires own { IsPassAt site pass }
     requires number { number_of pass ≡ 1 }
     requires passes { site.passes ≡ 1 }
 {
@@ -106,12 +96,8 @@ fn a_full_shard_stays_as_it_was(rt: HostRuntime) -> Result<(), Fail> {
 }
 
 fn cut_len<R: Wait>(rt: &R, alloc: Global, site: &Site, pass: &mut Pass) -> Result<usize, Fail>
-    requires { IsPassOf site.now.table.board.shared.table_id
-        site.now.table.board.shared.key
-        (layout_in site.now.names site.now.limit) pass.old }
-    ensures own { IsPassOf site.now.table.board.shared.table_id
-        site.now.table.board.shared.key
-        (layout_in site.now.names site.now.limit) pass.new }
+    requires { IsPassAt site.now pass.old }
+    ensures own { IsPassAt site.now pass.new }
 {
     let collections = collections(alloc)?;
     let cut = site.take_cut(rt, alloc, pass, &collections)?;
@@ -124,18 +110,14 @@ fn is_committed<R: Wait>(
     site: &Site,
     pass: &mut Pass,
 ) -> Result<bool, Memory>
-    requires { IsPassOf site.now.table.board.shared.table_id
-        site.now.table.board.shared.key
-        (layout_in site.now.names site.now.limit) pass.old }
+    requires { IsPassAt site.now pass.old }
 {
     let collection = Text::of(alloc, "c")?;
     Ok(site.commit_all(rt, alloc, pass, &collection).is_ok())
 }
 
 fn is_cut<R: Wait>(rt: &R, alloc: Global, site: &Site, pass: &mut Pass) -> Result<bool, Fail>
-    requires { IsPassOf site.now.table.board.shared.table_id
-        site.now.table.board.shared.key
-        (layout_in site.now.names site.now.limit) pass.old }
+    requires { IsPassAt site.now pass.old }
 {
     let counted = is_count(update(rt, alloc, site, pass, "2")?, 1);
     let len = cut_len(rt, alloc, site, pass)?;

@@ -1,6 +1,9 @@
 // Whether a site's record, and its answers, are those that were worked out by hand.
-use shard_versions::{CutMark, OwnMark, Record};
-use stream_site::SiteFault;
+ghost use Rattle.std.specs.Prelude.{IsSome, IsTrue};
+
+use shard_versions::{CutMark, Entry, Kind, OwnMark, Record, id_of};
+use stream_site::{Sent, SiteFault};
+use tuple_values::{Tuple, Value, Versions};
 
 fn are_looks(marks: &[CutMark], looks: &[(u32, u64)]) -> bool {
     for (k, mark) in marks.iter().enumerate() {
@@ -45,4 +48,49 @@ pub(crate) fn is_full(answer: Option<Result<u64, SiteFault>>, at: u16, after: u6
         ) => collection.as_str() == "c" && shard == at && stand == after,
         _ => false,
     }
+}
+
+/// Whether these are the versions of one shard, and this is its version.
+pub(crate) fn is_version(versions: &Option<Versions>, version: u64) -> bool
+    ensures { IsTrue result → IsSome versions.now }
+{
+    match versions {
+        Some(versions) => versions.len() == 1 && versions.get(0) == Some(&version),
+        None => false,
+    }
+}
+
+/// Whether a batch was sent, of which so many items were admitted, and so many not.
+pub(crate) fn is_sent(answer: &Option<Sent>, admitted: u64, refused: u64) -> bool
+    ensures { IsTrue result → IsSome answer.now }
+{
+    match answer {
+        Some(sent) => sent.admitted == admitted && sent.refused == refused,
+        None => false,
+    }
+}
+
+// Whether the document has id `1` and this number.
+fn is_numbered(document: &Tuple, number: i64) -> bool {
+    id_of(document) == "1"
+        && matches!(document.get("n_i"), Some(Value::Long(found)) if *found == number)
+}
+
+/// Whether the entry is the first pass's delivery of this version from c, with this number.
+pub(crate) fn is_delivery(entry: &Entry, at: u64, number: i64) -> bool {
+    match &entry.kind {
+        Kind::Sent {
+            src,
+            version,
+            document,
+        } => {
+            entry.by == 1 && src.as_str() == "c" && *version == at && is_numbered(document, number)
+        }
+        _ => false,
+    }
+}
+
+/// Whether it is the first pass's Mark.
+pub(crate) fn is_mark(entry: &Entry) -> bool {
+    entry.by == 1 && matches!(entry.kind, Kind::Mark)
 }

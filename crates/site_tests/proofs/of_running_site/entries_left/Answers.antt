@@ -1,5 +1,5 @@
 use Rattle.std.proofs.Common.{[], ◌∷◌, ◌++◌, ◌∙◌, ap}
-use Rattle.running_site.specs.Passes.{layout_in, IsPassOf}
+use Rattle.running_site.specs.Sites.{IsPassAt}
 use Rattle.site_tests.proofs.PassLemmas.{all-one, numbers-one}
 use Rattle.site_tests.proofs.of_running_site.entries_left.Goals as goal
 
@@ -7,8 +7,7 @@ pub close-requires-clause-own : goal.close-requires-clause-own
 close-requires-clause-own c =
     let site = c.args.site in
     let pass = c.args.pass in
-    all-one (IsPassOf site.table.board.shared.table_id site.table.board.shared.key
-    (layout_in site.names site.limit)) c.push.new.self pass
+    all-one (IsPassAt site) c.push.new.self pass
     (c.in_ok-push.ensures.ok ∙ ap (λ list. list ++ pass ∷ []) c.new-passes.ensures)
     c.requires.own
 
