@@ -2,10 +2,10 @@
 ghost use Rattle.std.specs.Prelude.{◌≡◌, true, IfSome, IsSome};
 ghost use Rattle.expr_types.specs.ExprTree.{expr_tree};
 ghost use Rattle.expr_check.specs.Views.{tree_of};
-ghost use Rattle.running_site.specs.Passes.{layout_in, number_of, writer_of};
+ghost use Rattle.running_site.specs.Passes.{number_of, writer_of};
+ghost use Rattle.running_site.specs.Sites.{layout_at, IsPassAt};
 ghost use Rattle.update_sink.specs.Topics.{sink_in_tree, sink_of, IsSinkThere};
 ghost use Rattle.site_threads.specs.Work.{HasWorked, IsRun};
-ghost use Rattle.site_threads.specs.Workers.{IsAt};
 
 use expr_check::{Checked, Roots};
 use expr_text::read_checked;
@@ -60,12 +60,12 @@ fn run<R: Wait, G: Gate>(
     checked: &Checked,
     gate: &G,
 ) -> Option<TopicRun>
-    requires own { IsAt site.now pass.old }
+    requires own { IsPassAt site.now pass.old }
     requires topic { IsSome (sink_in_tree (tree_of checked.now)) }
     requires there { IsSinkThere site.now.names (sink_of (tree_of checked.now)) }
-    ensures own { IsAt site.now pass.new }
+    ensures own { IsPassAt site.now pass.new }
     ensures number { number_of pass.new ≡ number_of pass.old }
-    ensures work { HasWorked (layout_in site.now.names site.now.limit) IsRun (writer_of pass.old)
+    ensures work { HasWorked (layout_at site.now) IsRun (writer_of pass.old)
         (writer_of pass.new) }
 {
     let mut visit = site.visit(rt, pass);
@@ -94,12 +94,12 @@ fn read_by<R: Wait>(
     pass: &mut Pass,
     checked: &Checked,
 ) -> Option<u64>
-    requires own { IsAt site.now pass.old }
+    requires own { IsPassAt site.now pass.old }
     requires topic { IsSome (sink_in_tree (tree_of checked.now)) }
     requires there { IsSinkThere site.now.names (sink_of (tree_of checked.now)) }
-    ensures own { IsAt site.now pass.new }
+    ensures own { IsPassAt site.now pass.new }
     ensures number { number_of pass.new ≡ number_of pass.old }
-    ensures work { HasWorked (layout_in site.now.names site.now.limit) IsRun (writer_of pass.old)
+    ensures work { HasWorked (layout_at site.now) IsRun (writer_of pass.old)
         (writer_of pass.new) }
 {
     let run = run(rt, alloc, site, pass, checked, &NoGate)?;
@@ -115,12 +115,12 @@ fn deliver_until<R: Wait>(
     checked: &Checked,
     wanted: u64,
 ) -> Option<u64>
-    requires own { IsAt site.now pass.old }
+    requires own { IsPassAt site.now pass.old }
     requires topic { IsSome (sink_in_tree (tree_of checked.now)) }
     requires there { IsSinkThere site.now.names (sink_of (tree_of checked.now)) }
-    ensures own { IsAt site.now pass.new }
+    ensures own { IsPassAt site.now pass.new }
     ensures number { number_of pass.new ≡ number_of pass.old }
-    ensures work { HasWorked (layout_in site.now.names site.now.limit) IsRun (writer_of pass.old)
+    ensures work { HasWorked (layout_at site.now) IsRun (writer_of pass.old)
         (writer_of pass.new) }
 {
     let mut done: u64 = 0;
@@ -144,10 +144,10 @@ pub fn deliver_once<R: Wait, G: Gate>(
     bytes: &[u8],
     gate: &G,
 ) -> Option<TopicRun>
-    requires { IsAt site.now pass.old }
-    ensures own { IsAt site.now pass.new }
+    requires { IsPassAt site.now pass.old }
+    ensures own { IsPassAt site.now pass.new }
     ensures number { number_of pass.new ≡ number_of pass.old }
-    ensures work { HasWorked (layout_in site.now.names site.now.limit) IsRun (writer_of pass.old)
+    ensures work { HasWorked (layout_at site.now) IsRun (writer_of pass.old)
         (writer_of pass.new) }
 {
     let checked = topic(alloc, site.names(), bytes)?;
@@ -162,10 +162,10 @@ pub fn deliver_all<R: Wait>(
     pass: &mut Pass,
     wanted: u64,
 ) -> Option<u64>
-    requires { IsAt site.now pass.old }
-    ensures own { IsAt site.now pass.new }
+    requires { IsPassAt site.now pass.old }
+    ensures own { IsPassAt site.now pass.new }
     ensures number { number_of pass.new ≡ number_of pass.old }
-    ensures work { HasWorked (layout_in site.now.names site.now.limit) IsRun (writer_of pass.old)
+    ensures work { HasWorked (layout_at site.now) IsRun (writer_of pass.old)
         (writer_of pass.new) }
 {
     let checked = topic(alloc, site.names(), FIRST)?;

@@ -1,8 +1,8 @@
 // A worker that puts documents.
 ghost use Rattle.std.specs.Prelude.{◌≡◌};
-ghost use Rattle.running_site.specs.Passes.{layout_in, number_of, writer_of};
+ghost use Rattle.running_site.specs.Passes.{number_of, writer_of};
+ghost use Rattle.running_site.specs.Sites.{layout_at, IsPassAt};
 ghost use Rattle.site_threads.specs.Work.{HasWorked, IsUpdateBy};
-ghost use Rattle.site_threads.specs.Workers.{IsAt};
 
 use running_site::{Pass, Site};
 use std::alloc::Global;
@@ -19,10 +19,10 @@ pub fn index_writes<R: Wait>(
     collection: &Text,
     writes: Writes,
 ) -> Option<u64>
-    requires { IsAt site.now pass.old }
-    ensures own { IsAt site.now pass.new }
+    requires { IsPassAt site.now pass.old }
+    ensures own { IsPassAt site.now pass.new }
     ensures number { number_of pass.new ≡ number_of pass.old }
-    ensures work { HasWorked (layout_in site.now.names site.now.limit)
+    ensures work { HasWorked (layout_at site.now)
         (IsUpdateBy collection.now writes) (writer_of pass.old) (writer_of pass.new) }
 {
     if shards_of(site.names(), collection.as_str()) == 0 || !are_storable_writes(&writes) {

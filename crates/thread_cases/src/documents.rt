@@ -1,4 +1,7 @@
 // The documents that workers put, and the collections that they lie in.
+ghost use Rattle.std.specs.Prelude.{◌≡◌, IfOk};
+ghost use Rattle.thread_cases.specs.Serving.{name_of};
+
 use std::alloc::Global;
 use tuple_values::{Memory, NameShards, Names, Text, Tuple, Value, Write, Writes};
 
@@ -6,7 +9,9 @@ use tuple_values::{Memory, NameShards, Names, Text, Tuple, Value, Write, Writes}
 pub const BATCH: u64 = 100;
 
 /// The collection of this number.
-pub fn collection(alloc: Global, number: u64) -> Result<Text, Memory> {
+pub fn collection(alloc: Global, number: u64) -> Result<Text, Memory>
+    ensures { IfOk result (λ name. name ≡ name_of number) }
+{
     Ok(Text::from_string(format!(in alloc; "c{number}")?))
 }
 

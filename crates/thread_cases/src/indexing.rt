@@ -1,7 +1,9 @@
 // A worker that puts documents.
 ghost use Rattle.std.specs.Prelude.{◌≡◌};
-ghost use Rattle.running_site.specs.Passes.{number_of};
-ghost use Rattle.site_threads.specs.Workers.{IsAt};
+ghost use Rattle.running_site.specs.Passes.{number_of, writer_of};
+ghost use Rattle.running_site.specs.Sites.{layout_at, IsPassAt};
+ghost use Rattle.site_threads.specs.Work.{HasWorked, IsUpdateOf};
+ghost use Rattle.thread_cases.specs.Serving.{name_of};
 
 use crate::documents::{collection, puts};
 use running_site::{Pass, Site};
@@ -19,11 +21,15 @@ pub fn index_all<R: Wait>(
     first: u64,
     batches: u64,
 ) -> Option<u64>
-    requires { IsAt site.now pass.old }
-    ensures own { IsAt site.now pass.new }
+    requires { IsPassAt site.now pass.old }
+    ensures own { IsPassAt site.now pass.new }
     ensures number { number_of pass.new ≡ number_of pass.old }
+    ensures work { HasWorked (layout_at site.now) (IsUpdateOf (name_of number)) (writer_of pass.old)
+        (writer_of pass.new) }
 {
-    let collection = collection(alloc, number).ok()?;
+    let Ok(collection) = collection(alloc, number) else {
+        return None;
+    };
     let mut done: u64 = 0;
     for k in 0..batches {
         let writes = puts(alloc, first.saturating_add(k)).ok()?;

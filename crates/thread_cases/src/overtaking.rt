@@ -1,7 +1,10 @@
 // Two workers, of which one delivers a version of a document that the other has overtaken.
 ghost use Rattle.std.specs.Prelude.{◌≡◌};
-ghost use Rattle.running_site.specs.Passes.{number_of};
-ghost use Rattle.site_threads.specs.Workers.{IsAt};
+ghost use Rattle.running_site.specs.Passes.{number_of, writer_of};
+ghost use Rattle.running_site.specs.Sites.{layout_at, IsPassAt};
+ghost use Rattle.site_threads.specs.Work.{HasWorked, IsRun, IsUpdateOf};
+ghost use Rattle.site_threads.specs.declared.workers.Task.TheVariants.{Overtake};
+ghost use Rattle.thread_cases.specs.Serving.{name_of, IsCallOf};
 
 use crate::baton::Baton;
 use crate::documents::{collection, put_one};
@@ -14,20 +17,26 @@ use update_sink::TopicRun;
 
 // Puts the document with this number.
 fn put<R: Wait>(rt: &R, alloc: Global, site: &Site, pass: &mut Pass, number: i64) -> Option<u64>
-    requires { IsAt site.now pass.old }
-    ensures own { IsAt site.now pass.new }
+    requires { IsPassAt site.now pass.old }
+    ensures own { IsPassAt site.now pass.new }
     ensures number { number_of pass.new ≡ number_of pass.old }
+    ensures work { HasWorked (layout_at site.now) (IsUpdateOf (name_of 0)) (writer_of pass.old)
+        (writer_of pass.new) }
 {
-    let collection = collection(alloc, 0).ok()?;
+    let Ok(collection) = collection(alloc, 0) else {
+        return None;
+    };
     let writes = put_one(alloc, number).ok()?;
     index_writes(rt, alloc, site, pass, &collection, writes)
 }
 
 // Delivers the document; how many writes of the delivery stand, if nothing is refused.
 fn deliver<R: Wait>(rt: &R, alloc: Global, site: &Site, pass: &mut Pass) -> Option<u64>
-    requires { IsAt site.now pass.old }
-    ensures own { IsAt site.now pass.new }
+    requires { IsPassAt site.now pass.old }
+    ensures own { IsPassAt site.now pass.new }
     ensures number { number_of pass.new ≡ number_of pass.old }
+    ensures work { HasWorked (layout_at site.now) IsRun (writer_of pass.old)
+        (writer_of pass.new) }
 {
     let run = deliver_once(rt, alloc, site, pass, FIRST, &NoGate)?;
     Some(run.stand)
@@ -42,9 +51,11 @@ pub fn overtake<R: Wait>(
     pass: &mut Pass,
     baton: &Baton,
 ) -> Option<u64>
-    requires { IsAt site.now pass.old }
-    ensures own { IsAt site.now pass.new }
+    requires { IsPassAt site.now pass.old }
+    ensures own { IsPassAt site.now pass.new }
     ensures number { number_of pass.new ≡ number_of pass.old }
+    ensures work { HasWorked (layout_at site.now) (IsCallOf Overtake) (writer_of pass.old)
+        (writer_of pass.new) }
 {
     put(rt, alloc, site, pass, 1)?;
     baton.reach(1);
@@ -73,9 +84,11 @@ pub fn come_late<R: Wait>(
     pass: &mut Pass,
     baton: &Baton,
 ) -> Option<u64>
-    requires { IsAt site.now pass.old }
-    ensures own { IsAt site.now pass.new }
+    requires { IsPassAt site.now pass.old }
+    ensures own { IsPassAt site.now pass.new }
     ensures number { number_of pass.new ≡ number_of pass.old }
+    ensures work { HasWorked (layout_at site.now) IsRun (writer_of pass.old)
+        (writer_of pass.new) }
 {
     baton.wait(1);
     let run = deliver_once(rt, alloc, site, pass, SECOND, baton)?;

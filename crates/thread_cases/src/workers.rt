@@ -1,8 +1,10 @@
 // Workers, each served in a thread of its own.
 ghost use Rattle.std.specs.Prelude.{ℕ, ◌≡◌, ◌<◌, All, length, slice_index_or};
-ghost use Rattle.running_site.specs.Passes.{number_of};
-ghost use Rattle.site_threads.specs.Workers.{IsAt, IsWorkerAt, Worker};
-ghost use Rattle.thread_cases.specs.Serving.{IsServed};
+ghost use Rattle.running_site.specs.Passes.{number_of, writer_of};
+ghost use Rattle.running_site.specs.Sites.{layout_at, IsPassAt};
+ghost use Rattle.site_threads.specs.Work.{HasWorked};
+ghost use Rattle.site_threads.specs.Workers.{IsWorkerAt, Worker};
+ghost use Rattle.thread_cases.specs.Serving.{IsCallOf, IsServed};
 
 use crate::baton::Baton;
 use crate::indexing::index_all;
@@ -22,9 +24,11 @@ fn carry_out<R: Wait>(
     pass: &mut Pass,
     task: Task,
 ) -> Option<u64>
-    requires { IsAt site.now pass.old }
-    ensures own { IsAt site.now pass.new }
+    requires { IsPassAt site.now pass.old }
+    ensures own { IsPassAt site.now pass.new }
     ensures number { number_of pass.new ≡ number_of pass.old }
+    ensures work { HasWorked (layout_at site.now) (IsCallOf task) (writer_of pass.old)
+        (writer_of pass.new) }
 {
     match task {
         Task::Index {

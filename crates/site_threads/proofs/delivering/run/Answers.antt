@@ -3,7 +3,8 @@ use Rattle.exchange_rules.specs.Rows.{Layout}
 use Rattle.turn_table.specs.Calls.{known}
 use Rattle.expr_check.specs.Views.{tree_of}
 use Rattle.update_sink.specs.Topics.{sink_of}
-use Rattle.running_site.specs.Passes.{layout_in, writer_in, writer_of}
+use Rattle.running_site.specs.Passes.{writer_in, writer_of}
+use Rattle.running_site.specs.Sites.{layout_at}
 use Rattle.running_site.proofs.CallLemmas.{at-site}
 use Rattle.site_threads.specs.Work.{run, HasWorked, IsRun}
 use Rattle.site_threads.proofs.WorkLemmas.{run-begins, work-one}
@@ -16,10 +17,10 @@ returns-clause-work g c =
     let w = c.run_topic-result.new.site in
     let here = writer_in (known v.pass) v.marks.items v.own.items in
     let there = writer_in (known w.pass) w.marks.items w.own.items in
-    let l = layout_in v.site.now.names v.site.now.limit in
+    let l = layout_at v.site.now in
     at-site (λ a b (m : Layout). HasWorked m IsRun a b) (writer_of c.args.pass.now) here there
-    (writer_of c.end.new.pass) (layout_in site.names site.limit) l
+    (writer_of c.end.new.pass) (layout_at site) l
     c.visit-visit.ensures.writer c.end.ensures.writer
-    (ap (λ s. layout_in s.names s.limit) c.visit-visit.ensures.site)
+    (ap (λ s. layout_at s) c.visit-visit.ensures.site)
     (work-one l IsRun here there (run (sink_of (tree_of c.args.checked.now))) tt
     (run-begins here there _ c.run_topic-result.result c.run_topic-result.ensures.course))

@@ -1,12 +1,13 @@
 use Rattle.std.proofs.Common.{refl}
-use Rattle.running_site.specs.Passes.{layout_in, writer_of}
+use Rattle.running_site.specs.Passes.{writer_of}
+use Rattle.running_site.specs.Sites.{layout_at}
 use Rattle.site_threads.specs.Work.{commit, index, IsUpdateBy}
 use Rattle.site_threads.proofs.WorkLemmas.{answered-begins, work-join, work-one}
 use Rattle.site_threads.proofs.indexing.index_writes.Goals as goal
 
 pub returns-in_err-count-clause-work : goal.returns-in_err-count-clause-work
 returns-in_err-count-clause-work g c =
-    let l = layout_in c.args.site.now.names c.args.site.now.limit in
+    let l = layout_at c.args.site.now in
     let name = c.args.collection.now in
     let writes = c.args.writes in
     let old = writer_of c.args.pass.now in
@@ -16,7 +17,7 @@ returns-in_err-count-clause-work g c =
 
 pub returns-in_err-ok-clause-work : goal.returns-in_err-ok-clause-work
 returns-in_err-ok-clause-work g c =
-    let l = layout_in c.args.site.now.names c.args.site.now.limit in
+    let l = layout_at c.args.site.now in
     let name = c.args.collection.now in
     let writes = c.args.writes in
     let P = IsUpdateBy name writes in
@@ -31,7 +32,7 @@ returns-in_err-ok-clause-work g c =
 
 pub returns-clause-work : goal.returns-clause-work
 returns-clause-work g c =
-    let l = layout_in c.args.site.now.names c.args.site.now.limit in
+    let l = layout_at c.args.site.now in
     let name = c.args.collection.now in
     let writes = c.args.writes in
     let P = IsUpdateBy name writes in
