@@ -50,12 +50,6 @@ pub reads_plain : (l : Layout) (e : ExprTree) (next : List Doc → Course Done) 
 reads_plain l e next is =
     ap (λ b. if b then and_then (list_course l e) next else ends (misplaced e)) is
 
--- and else it is told
-pub reads_misplaced : (l : Layout) (e : ExprTree) (next : List Doc → Course Done)
-    → is_plain e ≡ false → reads_then l e next ≡ ends (misplaced e)
-reads_misplaced l e next is =
-    ap (λ b. if b then and_then (list_course l e) next else ends (misplaced e)) is
-
 -- the tuples of a cut
 pub list_carried : (old new : Writer) (l : Layout) (e : ExprTree) (cut : List CutPart)
     (r : Result (List Doc) Memory) → Answers old new (cut_course l.names [] (collections_of e)) cut

@@ -1,7 +1,6 @@
 pub mod Stays
 pub mod Lists
 pub mod Deeds
-pub mod Views
 pub mod Texts
 pub mod Dones
 pub mod Runs

@@ -2,11 +2,9 @@
 #![tactic(auto)]
 
 mod committing;
-mod deed;
 mod done;
 mod following;
 mod laws;
-mod plain;
 mod reading;
 mod record;
 mod running;

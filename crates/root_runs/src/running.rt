@@ -1,9 +1,10 @@
 // Expressions, carried out at a site.
-ghost use Rattle.std.specs.Prelude.{◌≡◌, true, IfOk, IfErr};
+ghost use Rattle.std.specs.Prelude.{◌≡◌, IfOk, IfErr};
 ghost use Rattle.exchange_rules.specs.Calls.{Carried};
 ghost use Rattle.exchange_rules.specs.Courses.{ends};
 ghost use Rattle.exchange_rules.specs.Following.{Begins, cleared};
 ghost use Rattle.expr_check.specs.Views.{tree_of};
+ghost use Rattle.expr_types.specs.Plain.{IsPlain};
 ghost use Rattle.root_runs.specs.Dones.{given};
 ghost use Rattle.root_runs.specs.Rooted.{IsRun};
 ghost use Rattle.root_runs.specs.Runs.{reads_then, root_course};
@@ -11,13 +12,11 @@ ghost use Rattle.root_runs.specs.Stays.{Stays};
 
 use crate::Done;
 use crate::committing::run_commit_of;
-use crate::deed::{Deed, deed_of};
 use crate::following::run_follow;
-use crate::plain::is_plain;
 use crate::reading::run_plain;
 use crate::record::take_record_over;
 use crate::updating::run_update_of;
-use expr_check::Checked;
+use expr_check::{Checked, Root};
 use io_edge::Gate;
 use shard_versions::{CutMarks, OwnMarks};
 use std::alloc::Global;
@@ -33,14 +32,11 @@ fn give_plain<T: Turns, R: Threads + Sync, G: Gate>(
     checked: &Checked,
     gate: &G,
 ) -> Result<Done, Memory>
+    requires { IsPlain (tree_of checked.now) }
     ensures course { Carried (T.writer site.old) (T.writer site.new)
         (reads_then (T.layout site.old) (tree_of checked.now) (λ docs. ends (given docs))) result }
     ensures stays { Stays T.layout T.home T.free site.old site.new }
 {
-    let expr = checked.expr();
-    if !is_plain(expr) {
-        return Done::misplaced(alloc, expr);
-    }
     let docs = run_plain(alloc, rt, site, checked, gate)?;
     Ok(Done::given(docs))
 }
@@ -58,20 +54,12 @@ pub fn run_deed<T: Turns, R: Threads + Sync, G: Gate>(
         (root_course (T.layout site.old) (tree_of checked.now)) result }
     ensures stays { Stays T.layout T.home T.free site.old site.new }
 {
-    match deed_of(checked.expr()) {
-        Deed::Reads => give_plain(alloc, rt, site, checked, gate),
-        Deed::Follows {
-            checkpoints,
-            src,
-            id,
-        } => run_follow(alloc, site, checkpoints, src, id, checked),
-        Deed::Writes { dest, batch_size } => {
-            run_update_of(alloc, rt, site, dest, batch_size, checked, gate)
-        }
-        Deed::Commits { dest, batch_size } => {
-            run_commit_of(alloc, rt, site, dest, batch_size, checked, gate)
-        }
-        Deed::Repeats => Done::misplaced(alloc, checked.expr()),
+    match checked.root() {
+        Root::Reads => give_plain(alloc, rt, site, checked, gate),
+        Root::Topic(topic) => run_follow(alloc, site, &topic, checked),
+        Root::Update(update) => run_update_of(alloc, rt, site, &update, checked, gate),
+        Root::Commit(commit) => run_commit_of(alloc, rt, site, &commit, gate),
+        Root::Daemon(_) => Done::misplaced(alloc, checked.expr()),
     }
 }
 

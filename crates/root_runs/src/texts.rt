@@ -1,8 +1,11 @@
 // What is told of the faults of updates, commits and topics.
 ghost use Rattle.std.specs.Prelude.{◌≡◌, IfOk};
+ghost use Rattle.expr_check.specs.Roots.{topic_parts};
 ghost use Rattle.root_runs.specs.Texts.{Told, bound_text, full_text, run_told, site_told, topic_told};
+ghost use Rattle.update_sink.specs.Topics.{key_of};
 
 use exchange_rules::{RunFault, SiteFault};
+use expr_check::TopicRoot;
 use std::alloc::Global;
 use topic_book::{Binding, kept_text};
 use tuple_values::{Memory, Text};
@@ -63,12 +66,12 @@ pub(crate) fn run_told(alloc: Global, stand: u64, fault: &RunFault) -> Result<Te
 }
 
 // What is told of a topic that is bound to other values.
-fn bound_text(alloc: Global, checkpoints: &Text, id: &Text, kept: &Binding) -> Result<Text, Memory>
-    ensures { IfOk result (λ text. text
-        ≡ bound_text (record { checkpoints = checkpoints.now; id = id.now }) kept.now) }
+fn bound_text(alloc: Global, topic: &TopicRoot<'_>, kept: &Binding) -> Result<Text, Memory>
+    ensures { IfOk result (λ text. text ≡ bound_text (key_of (topic_parts topic.now)) kept.now) }
 {
     let kept = kept_text(alloc, kept)?;
-    let (checkpoints, id, kept) = (checkpoints.as_str(), id.as_str(), kept.as_str());
+    let (checkpoints, id) = (topic.checkpoints.as_str(), topic.id.as_str());
+    let kept = kept.as_str();
     let text = format!(in alloc; "TopicBound {checkpoints} {id} kept {kept}")?;
     Ok(Text::from_string(text))
 }
@@ -77,13 +80,12 @@ fn bound_text(alloc: Global, checkpoints: &Text, id: &Text, kept: &Binding) -> R
 /// stand. Want of memory stays.
 pub(crate) fn topic_told(
     alloc: Global,
-    checkpoints: &Text,
-    id: &Text,
+    topic: &TopicRoot<'_>,
     stand: u64,
     fault: &SiteFault,
 ) -> Result<Text, Memory>
     ensures { IfOk result (λ text. Told fault.now (text
-        ≡ topic_told (record { checkpoints = checkpoints.now; id = id.now }) stand fault.now)) }
+        ≡ topic_told (key_of (topic_parts topic.now)) stand fault.now)) }
 {
     match fault {
         SiteFault::ShardFull {
@@ -91,7 +93,7 @@ pub(crate) fn topic_told(
             shard,
             ..
         } => full_text(alloc, collection, *shard, stand),
-        SiteFault::TopicBound { kept } => bound_text(alloc, checkpoints, id, kept),
+        SiteFault::TopicBound { kept } => bound_text(alloc, topic, kept),
         SiteFault::BookFull { .. } => Text::of(alloc, "BookFull 1000"),
         SiteFault::OutOfMemory { .. } => Err(Memory::OutOfMemory),
     }

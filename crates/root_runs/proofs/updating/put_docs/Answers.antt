@@ -13,8 +13,8 @@ returns-in_err-ran-clause-course g c =
     let w = g.T.Turns.writer c.args.site.now in
     let new = g.T.Turns.writer c.run_update.new.site in
     let l = g.T.Turns.layout c.args.site.now in
-    let dest = c.args.dest.now in
-    let size = c.args.batch_size in
+    let dest = c.args.update.now.dest.now in
+    let size = c.args.update.now.batch_size in
     let docs = c.args.docs in
     let r = err_from_is_err_and c.from_residual.result c.from_residual.ensures.1 in
     begun w new (put_course l dest size docs) c.from_residual.result r.0 r.1
@@ -23,6 +23,8 @@ returns-in_err-ran-clause-course g c =
 
 pub returns-clause-course : goal.returns-clause-course
 returns-clause-course g c =
+    let update = c.args.update.now in
     put_carried (g.T.Turns.writer c.args.site.now) (g.T.Turns.writer c.run_update.new.site)
-    (g.T.Turns.layout c.args.site.now) c.args.dest.now c.args.batch_size _ c.args.docs
-    c.in_ok-ran.ran c.ran_over.result c.in_ok-ran.ensures.course c.count-tuples.ensures c.ran_over.ensures
+    (g.T.Turns.layout c.args.site.now) update.dest.now update.batch_size _ c.args.docs
+    c.in_ok-ran.ran c.ran_over.result c.in_ok-ran.ensures.course c.count-tuples.ensures
+    c.ran_over.ensures

@@ -12,7 +12,8 @@ returns-then-not-is_there-clause-course g c =
     let w = g.T.Turns.writer c.args.site.now in
     let l = g.T.Turns.layout c.args.site.now in
     let e = tree_of c.args.checked.now in
-    let dest = c.args.dest.now in
-    ends_with w (update_over l e dest c.args.batch_size) (unknown dest) c.unknown.result
-    (there_told l.names dest (update_with l e dest c.args.batch_size (input_of e))
+    let dest = c.args.update.now.dest.now in
+    let size = c.args.update.now.batch_size in
+    ends_with w (update_over l e dest size) (unknown dest) c.unknown.result
+    (there_told l.names dest (update_with l e dest size (input_of e))
     (sym c.is_there.ensures ∙ c.if-not-is_there.true)) c.unknown.ensures
