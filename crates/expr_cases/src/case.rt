@@ -7,6 +7,7 @@ use daemon_steps::run_daemons;
 use form_request::Request;
 use io_edge::NoGate;
 use json_text::tuple_text;
+use server_edge::{Clock, NoClock};
 use std::alloc::Global;
 use std::thread::Threads;
 use stream_handler::{Outcome, run_expression, run_plain_expression, run_request};
@@ -65,7 +66,7 @@ fn run<R: Threads + Sync>(
     requires { IsKept board.old.shown }
     ensures { IsKept board.new.shown }
 {
-    run_request(alloc, rt, site, board, request, &NoGate)
+    run_request(alloc, rt, site, board, request, NoClock.now_ms(), &NoGate)
 }
 
 // What an expression is answered.
@@ -79,7 +80,15 @@ fn run_text<R: Threads + Sync>(
     requires { IsKept board.old.shown }
     ensures { IsKept board.new.shown }
 {
-    run_expression(alloc, rt, site, board, text.as_bytes(), &NoGate)
+    run_expression(
+        alloc,
+        rt,
+        site,
+        board,
+        text.as_bytes(),
+        NoClock.now_ms(),
+        &NoGate,
+    )
 }
 
 // What the update of these words is answered.

@@ -1,8 +1,9 @@
-// Tests of stream_handler: that a whole connection is served where there is memory, and that a
-// stream may be given to another thread.
+// Tests of stream_handler: that a whole connection is served where there is memory, how long its
+// requests took by a clock, and that a stream may be given to another thread.
 use crate::running::{is_joined, joined};
 use daemon_board::Board;
 use io_edge::{MemorySink, MemorySource, NoGate};
+use server_edge::{Clock, MemoryClock, NoClock};
 use std::alloc::Global;
 use std::test::Fail;
 use std::thread::Threads;
@@ -19,17 +20,27 @@ fn site(alloc: Global) -> Result<PlainSite, Memory> {
     PlainSite::start(alloc, names, 1_000_000)
 }
 
-// How a connection of these pieces is served at a new site, seven bytes at a time.
-fn serve<R: Threads + Sync>(
+// How a connection of these pieces is served at a new site by a clock, seven bytes at a time.
+fn serve<R: Threads + Sync, C: Clock>(
     rt: &R,
     alloc: Global,
     pieces: &[&str],
     sink: &mut MemorySink,
+    clock: &C,
 ) -> Result<SessionEnd, Memory> {
     let mut source = MemorySource::new(joined(alloc, pieces)?, 7, Numbers::new(alloc));
     let mut site = site(alloc)?;
     let mut board = Board::empty(alloc);
-    Ok(serve_connection(alloc, rt, &mut site, &mut board, &mut source, sink, &NoGate))
+    Ok(serve_connection(
+        alloc,
+        rt,
+        &mut site,
+        &mut board,
+        &mut source,
+        sink,
+        clock,
+        &NoGate,
+    ))
 }
 
 // Whether the exchange of this number has so many looks and steps.
@@ -49,6 +60,9 @@ const SEARCH: &str = "GET /solr/c/stream?expr=search(c,q%3D%22*:*%22,fl%3D%22id%
 const UPDATED: &str = "HTTP/1.1 200 OK\r\nContent-Type: application/json\r\n\
      Content-Length: 41\r\n\r\n{\"responseHeader\":{\"status\":0,\"QTime\":0}}";
 
+const UPDATED_IN_7: &str = "HTTP/1.1 200 OK\r\nContent-Type: application/json\r\n\
+     Content-Length: 41\r\n\r\n{\"responseHeader\":{\"status\":0,\"QTime\":7}}";
+
 const FOUND: &str = "HTTP/1.1 200 OK\r\nContent-Type: application/json\r\n\
      Content-Length: 67\r\nConnection: close\r\n\r\n\
      {\"result-set\":{\"docs\":[{\"id\":\"1\"},{\"EOF\":true,\"RESPONSE_TIME\":0}]}}";
@@ -63,7 +77,7 @@ fn is_closed(served: &SessionEnd) -> bool {
 
 fn is_served<R: Threads + Sync>(rt: &R, alloc: Global) -> Result<bool, Memory> {
     let mut sink = MemorySink::new(alloc, Numbers::new(alloc));
-    let served = serve(rt, alloc, &[UPDATE, SEARCH, UPDATE], &mut sink)?;
+    let served = serve(rt, alloc, &[UPDATE, SEARCH, UPDATE], &mut sink, &NoClock)?;
     Ok(is_closed(&served) && is_joined(sink.bytes(), &[UPDATED, FOUND]))
 }
 
@@ -73,9 +87,57 @@ fn a_connection_is_served_until_it_closes(rt: HostRuntime) -> Result<(), Fail> {
     Ok(())
 }
 
+// Whether the exchange of this number took so many milliseconds.
+fn took(served: &SessionEnd, number: usize, millis: u64) -> bool {
+    match served.exchanges.as_slice().get(number) {
+        Some(exchange) => exchange.millis == millis,
+        None => false,
+    }
+}
+
+// A clock that tells 5 and 12, and falls from 20 to 3.
+fn falling_clock(alloc: Global) -> Result<MemoryClock, Memory> {
+    let mut numbers = Numbers::new(alloc);
+    for now in [5, 12, 20, 3] {
+        numbers.push(now)?;
+    }
+    Ok(MemoryClock::new(numbers))
+}
+
+// Whether the first of two requests took 7 milliseconds by a clock, and the second none.
+fn is_timed<R: Threads + Sync, C: Clock>(
+    rt: &R,
+    alloc: Global,
+    clock: &C,
+    sink: &mut MemorySink,
+) -> Result<bool, Memory> {
+    let served = serve(rt, alloc, &[UPDATE, SEARCH], sink, clock)?;
+    Ok(
+        took(&served, 0, 7)
+            && took(&served, 1, 0)
+            && is_joined(sink.bytes(), &[UPDATED_IN_7, FOUND]),
+    )
+}
+
+fn are_timed<R: Threads + Sync>(rt: &R, alloc: Global) -> Result<bool, Memory> {
+    let clock = falling_clock(alloc)?;
+    is_timed(
+        rt,
+        alloc,
+        &clock,
+        &mut MemorySink::new(alloc, Numbers::new(alloc)),
+    )
+}
+
+#[test]
+fn a_request_takes_what_went_by_on_the_clock(rt: HostRuntime) -> Result<(), Fail> {
+    assert!(rt; are_timed(&rt, rt.alloc())?);
+    Ok(())
+}
+
 fn end_of<R: Threads + Sync>(rt: &R, alloc: Global, bytes: &str) -> Result<End, Memory> {
     let mut sink = MemorySink::new(alloc, Numbers::new(alloc));
-    let served = serve(rt, alloc, &[bytes], &mut sink)?;
+    let served = serve(rt, alloc, &[bytes], &mut sink, &NoClock)?;
     Ok(served.end)
 }
 

@@ -1,4 +1,4 @@
--- A board says just what it answers as a function of its tickets.
+-- A board that is asked at 0 says just what it answers as a function of its tickets.
 use Rattle.std.proofs.Common.{◌≡◌, ℕ, ◌++◌, Bool, true, false, List, Option, Some, None, refl, sym, ap, subst, ◌∙◌}
 use Rattle.std.specs.Prelude.{Result, Ok, Err, bytes_eq, codes, nat_lt, unwrap_or, if◌then◌else◌}
 use Rattle.tuple_values.specs.Document.{ByteList, Doc}
@@ -131,7 +131,7 @@ outcome_is b o r e = ap (λ (x : Tickets × Outcome). x.1) e
 
 -- what a board said
 pub said_alone : (a b : Told) (o : Outcome) (ask : Ask)
-    → Says ask (state_of a) (state_of b) o → IsSaidAlone ask a.shown b.shown o
+    → Says 0 ask (state_of a) (state_of b) o → IsSaidAlone ask a.shown b.shown o
 said_alone a b o nothing s =
     let same : b.shown ≡ a.shown = ap (λ (x : BoardState). unwrap_or x.shown a.shown) s in
     record { tickets = ap tickets_of same; told = tt }
@@ -144,21 +144,21 @@ said_alone a b o lists s =
           (w.0 ∙ sym (listed_tickets-tickets_of a.shown));
     }
 said_alone a b o (stops id) s =
-    let w = where_told a.shown b.shown (Makes Stop id s.answer) s.told in
+    let w = where_told a.shown b.shown (Makes 0 Stop id s.answer) s.told in
     let e = change_said Stop id (change_first (has_id id) stopped a.shown.daemons)
     (stop_ticket id (tickets_of a.shown)) a.shown b.shown s.answer o
     (tickets_of-stopped id a.shown) w s.outcome in
     said_both (stops id) a.shown b.shown o e
     (outcome_is (tickets_of b.shown) o (board_alone (stops id) (tickets_of a.shown)) e)
 said_alone a b o (resumes id) s =
-    let w = where_told a.shown b.shown (Makes Start id s.answer) s.told in
+    let w = where_told a.shown b.shown (Makes 0 Start id s.answer) s.told in
     let e = change_said Start id (change_first (has_id id) (resumed 0) a.shown.daemons)
     (resume_ticket id (tickets_of a.shown)) a.shown b.shown s.answer o
     (tickets_of-resumed id 0 a.shown) w s.outcome in
     said_both (resumes id) a.shown b.shown o e
     (outcome_is (tickets_of b.shown) o (board_alone (resumes id) (tickets_of a.shown)) e)
 said_alone a b o (kills id) s =
-    let w = where_told a.shown b.shown (Makes Kill id s.answer) s.told in
+    let w = where_told a.shown b.shown (Makes 0 Kill id s.answer) s.told in
     let e = change_said Kill id (without_first (has_id id) a.shown.daemons)
     (drop_ticket id (tickets_of a.shown)) a.shown b.shown s.answer o
     (tickets_of-removed id a.shown) w s.outcome in
@@ -176,7 +176,7 @@ said_alone a b o (starts id t interval terminate) s =
 
 -- what every board keeps of its daemons, it keeps whatever it says
 pub said_kept : (a b : Told) (o : Outcome) (ask : Ask) → IsKept a.shown
-    → Says ask (state_of a) (state_of b) o → IsKept b.shown
+    → Says 0 ask (state_of a) (state_of b) o → IsKept b.shown
 said_kept a b o nothing kept s =
     subst IsKept (sym (ap (λ (x : BoardState). unwrap_or x.shown a.shown) s)) kept
 said_kept a b o lists kept s = lists-kept (Ok s.docs) a.shown b.shown s.told kept

@@ -1,5 +1,5 @@
 -- What messages are answered between which daemons run, where one writer is alone.
-use Rattle.std.proofs.Common.{◌≡◌, ℕ, zero, suc, List, [], ◌∷◌, ◌++◌, take, refl, sym, ap, subst, ◌∙◌, append_assoc}
+use Rattle.std.proofs.Common.{◌≡◌, ℕ, zero, suc, List, [], ◌∷◌, ◌++◌, take, refl, sym, ap, subst, ◌∙◌, append_assoc, arith}
 use Rattle.tuple_values.specs.Document.{ByteList}
 use Rattle.exchange_rules.specs.Accesses.{Access}
 use Rattle.exchange_rules.specs.Cells.{Log}
@@ -16,6 +16,7 @@ use Rattle.daemon_board.specs.Boards.{Told}
 use Rattle.daemon_board.specs.Tickets.{Ticket, Tickets, tickets_of, with_tickets}
 use Rattle.daemon_steps.specs.Steps.{steps_course}
 use Rattle.daemon_steps.specs.Stepped.{IsStepped}
+use Rattle.server_edge.specs.Clocks.{Took}
 use Rattle.stream_handler.specs.Asks.{ask_of}
 use Rattle.stream_handler.specs.Exchanges.{Answer, messages_of, replies_of, reply_to}
 use Rattle.stream_handler.specs.Outcomes.{reply_of}
@@ -25,8 +26,12 @@ use Rattle.stream_handler.specs.Sessions.{Exchanged}
 use Rattle.stream_handler.specs.declared.outcome.Outcome.{Outcome}
 use Rattle.stream_commands.specs.Rounds.{after_daemons, after_message, after_messages, answered_alone, asked_alone}
 use Rattle.stream_commands.specs.Scripts.{replies_alone}
-use Rattle.stream_commands.specs.Serving.{AreRounds, IsAnsweredTo, IsRound}
+use Rattle.stream_commands.specs.Serving.{AreRounds, IsAnsweredTo, IsRound, TellsZero}
 use Rattle.stream_commands.proofs.BoardLemmas.{course_told, said_alone}
+
+-- by a clock that tells 0 alone nothing takes any time
+pub took_none : (start millis : ℕ) → Took TellsZero start millis → millis ≡ 0
+took_none start millis t = let none : t.end ≡ 0 = t.told in omega (arith, t.lasted, none)
 
 -- the same writer, which has seen no less
 pub record HasGrown (w v : Writer) : Type 0 where
@@ -39,7 +44,8 @@ grown_join u v w p q = record {
   grown = grows_join u.seen v.seen w.seen p.grown q.grown;
 }
 
-pub answered_grown : (l : Layout) (w v : Writer) (answers : List Answer) → Exchanged l w v answers
+pub answered_grown : (l : Layout) (w v : Writer) (answers : List Answer)
+    → Exchanged TellsZero l w v answers
     → HasGrown w v
 answered_grown l w v answers x = record { same = x.same; grown = x.grown }
 
@@ -101,7 +107,7 @@ module _ (l : Layout) (seen : List Log) (alone : (had : List ℕ) → IsAlone 1 
 
   -- a message was answered
   exchanged_alone : (w v : Writer) (a : Answer) → w.me ≡ 1 → Grows v.seen seen
-      → Exchanged l w v (a ∷ [])
+      → Exchanged TellsZero l w v (a ∷ [])
       → run_alone 1 (known w) (request_course l a.outcome a.message.request) ≡ (known v, a.outcome)
   exchanged_alone w v a one grown x =
       ran_alone w.me v.seen (counts w.seen) (counts v.seen)
@@ -174,11 +180,11 @@ module _ (l : Layout) (seen : List Log) (alone : (had : List ℕ) → IsAlone 1 
   abbrev pub reply_alone : Message → Outcome → ByteList
   reply_alone m o = said m.asks ++ reply_of m.request.closes 0 o
 
-  pub one_reply : (w v : Writer) (a : Answer) → Exchanged l w v (a ∷ [])
+  pub one_reply : (w v : Writer) (a : Answer) → Exchanged TellsZero l w v (a ∷ [])
       → reply_to a ≡ reply_alone a.message a.outcome
   one_reply w v a x =
       ap (λ n. said a.message.asks ++ reply_of a.message.request.closes n a.outcome)
-      x.sound.1.at_once
+      (took_none a.now a.exchange.millis x.sound.1.lasted)
 
   -- behind some messages, others are answered over what those left
   pub replies_behind : (w v : Writer) (b c : Told) (answers : List Answer) (more : List Message)

@@ -43,7 +43,7 @@ use Rattle.stream_commands.specs.Endings.{HasRisen, IsEndingOf, Writes, WritesFo
 use Rattle.stream_commands.specs.Replies.{layout, logs_at_start}
 use Rattle.stream_commands.specs.Rounds.{AreLawful, AreLawfulBefore, after_messages, answered_alone, logs_after}
 use Rattle.stream_commands.specs.Scripts.{IsScriptBegun, IsScriptInPart, IsScriptRead, IsScriptRun, replies_alone, replies_over, tail_text}
-use Rattle.stream_commands.specs.Serving.{HasServed, IsAnsweredTo, IsAtRest, IsCarriedOn, IsCutInRuns, StopsBy, ending_of, state_of}
+use Rattle.stream_commands.specs.Serving.{HasServed, IsAnsweredTo, IsAtRest, IsCarriedOn, IsCutInRuns, StopsBy, TellsZero, ending_of, state_of}
 use Rattle.stream_commands.proofs.RoundLemmas.{HasGrown, answer_alone, answered_grown, cleared_grown, grown_join, known, one_reply, replies_behind, reply_alone, rounds_grown, rounds_lawful}
 use Rattle.stream_commands.proofs.ServingLemmas.{one_answered}
 
@@ -440,10 +440,10 @@ module _ (names : List NameShards) (all : List ℕ) (reads : ℕ) (written : Opt
       (p : IsCarriedOn (layout names) began mid starter w empty_board b answers)
       (told : new.board ≡ state_of after) where
     over_writes : (e : End) (unfinished : Option Exchange)
-        → IsOneOver (layout names) mid new w v unfinished e → Wrote e
+        → IsOneOver TellsZero (layout names) mid new w v unfinished e → Wrote e
     over_writes e None o = by o.over.ends
       where
-        by : EndsBy (layout names) mid new w v [] (record_of v) e → Wrote e
+        by : EndsBy TellsZero (layout names) mid new w v [] (record_of v) e → Wrote e
         by (inl s) =
             ended mid w b answers p (answered_grown (layout names) w v [] s.exchanged) e o.unclosed
             s.ends
@@ -457,7 +457,8 @@ module _ (names : List NameShards) (all : List ℕ) (reads : ℕ) (written : Opt
         (cut_off mid w b answers p
         (answered_grown (layout names) w v (o.1.answer ∷ []) o.1.exchanged) after o.1.answer
         (one_answered (layout names) mid.board w v b after o.1.answer p.board o.1.exchanged
-        (subst (λ s. BoardsAlong (layout names) mid.board (o.1.answer ∷ []) s) told o.1.boards))
+        (subst (λ s. BoardsAlong TellsZero (layout names) mid.board (o.1.answer ∷ []) s) told
+        o.1.boards))
         o.1.rose o.1.cut)
 
     runs_write : (e : End) → IsCutInRuns (layout names) mid new w v after e → Wrote e
@@ -546,11 +547,12 @@ served_risen l old new w v before after e s = by_stops s.stops
         rose_since old.writes s.mid.writes new.writes s.served.counts.writes q.0
     by_wire end.OutOfMemory q = tt
 
-    by_ends : EndsBy l s.mid new s.turned v [] (record_of v) e → Rises old new e
+    by_ends : EndsBy TellsZero l s.mid new s.turned v [] (record_of v) e → Rises old new e
     by_ends (inl i) = by_wire e i.ends
     by_ends (inr b) = subst (Rises old new) (sym b.0) tt
 
-    by_over : (unfinished : Option Exchange) → IsOneOver l s.mid new s.turned v unfinished e
+    by_over : (unfinished : Option Exchange)
+        → IsOneOver TellsZero l s.mid new s.turned v unfinished e
         → Rises old new e
     by_over None o = by_ends o.over.ends
     by_over (Some x) o =

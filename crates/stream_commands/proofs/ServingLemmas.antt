@@ -21,7 +21,7 @@ use Rattle.stream_handler.specs.declared.exchange.Exchange.{Exchange}
 use Rattle.stream_handler.proofs.PassLemmas.{passes_none, untold}
 use Rattle.stream_handler.proofs.ServeLemmas.{passed_join}
 use Rattle.stream_handler.proofs.WireLemmas.{appends_join, appends_none, came_none, counts_join, counts_same}
-use Rattle.stream_commands.specs.Serving.{HasRound, HasRun, HasServed, IsAnsweredTo, IsCarriedOn, state_of}
+use Rattle.stream_commands.specs.Serving.{HasRound, HasRun, HasServed, IsAnsweredTo, IsCarriedOn, TellsZero, state_of}
 use Rattle.stream_commands.proofs.BoardLemmas.{said_kept}
 use Rattle.stream_commands.proofs.RoundLemmas.{rounds_join}
 
@@ -75,26 +75,28 @@ served_join l old mid new u v w b c d xs e p s = record {
   told = s.told;
 }
 
--- what the board said to one message
+-- what the board said to one message, at 0
 board_said : (l : Layout) (before after : BoardState) (a : Answer)
-    → BoardsAlong l before (a ∷ []) after
-    → Says (ask_of l.names a.message.request) before after a.outcome
+    → BoardsAlong TellsZero l before (a ∷ []) after
+    → Says 0 (ask_of l.names a.message.request) before after a.outcome
 board_said l before after a b =
-    subst (λ x. Says (ask_of l.names a.message.request) before x a.outcome) (sym b.2) b.1
+    subst (λ n. Says n (ask_of l.names a.message.request) before after a.outcome) b.1
+    (subst (λ x. Says a.now (ask_of l.names a.message.request) before x a.outcome) (sym b.3) b.2)
 
 -- one message was answered
 pub one_answered : (l : Layout) (before : BoardState) (w v : Writer) (b c : Told) (a : Answer)
-    → before ≡ state_of b → Exchanged l w v (a ∷ []) → BoardsAlong l before (a ∷ []) (state_of c)
+    → before ≡ state_of b → Exchanged TellsZero l w v (a ∷ [])
+    → BoardsAlong TellsZero l before (a ∷ []) (state_of c)
     → IsAnsweredTo l w v b c a
 one_answered l before w v b c a is x along = record {
   exchanged = x;
-  said = subst (λ s. Says (ask_of l.names a.message.request) s (state_of c) a.outcome) is
+  said = subst (λ s. Says 0 (ask_of l.names a.message.request) s (state_of c) a.outcome) is
       (board_said l before (state_of c) a along);
 }
 
 module _ (l : Layout) (old new : Wire) (w mid v : Writer) (before asked after : Told) (x : Exchange)
     (last : Bool) (from : old.board ≡ state_of before) (to : new.board ≡ state_of after)
-    (one : IsOneServed l old (at_board new asked) w mid x last) where
+    (one : IsOneServed TellsZero l old (at_board new asked) w mid x last) where
   -- it was answered, and the daemons ran
   carried_one : IsStepped l mid v (tickets_of asked.shown) (tickets_of after.shown)
       → IsLawful l.names v.seen → IsCarriedOn l old new w v before after (one.answer ∷ [])
@@ -146,19 +148,19 @@ module _ (l : Layout) (old new : Wire) (w mid v : Writer) (before asked after : 
 -- what the board is after a message
 pub one_kept : {l : Layout} {old new : Wire} {w v : Writer} {x : Exchange} {last : Bool}
     (before asked : Told) → old.board ≡ state_of before → new.board ≡ state_of asked
-    → IsOneServed l old new w v x last → IsKept before.shown → IsKept asked.shown
+    → IsOneServed TellsZero l old new w v x last → IsKept before.shown → IsKept asked.shown
 one_kept {l} {old} {new} before asked from to one kept =
     let a = one.answer in
     said_kept before asked a.outcome (ask_of l.names a.message.request) kept
-    (subst (λ s. Says (ask_of l.names a.message.request) (state_of before) s a.outcome) to
-    (subst (λ s. Says (ask_of l.names a.message.request) s new.board a.outcome) from
+    (subst (λ s. Says 0 (ask_of l.names a.message.request) (state_of before) s a.outcome) to
+    (subst (λ s. Says 0 (ask_of l.names a.message.request) s new.board a.outcome) from
     (board_said l old.board new.board a one.served.boards)))
 
 module _ (l : Layout) (old new : Wire) (w mid v : Writer) (before asked after : Told) (x : Exchange)
     (from : old.board ≡ state_of before) (to : new.board ≡ state_of after) where
   -- a message was served, and it goes on
   pub round_on : (k : Layout) (found : Option End) → k ≡ l
-      → IsOneServed l old (at_board new asked) w mid x false
+      → IsOneServed TellsZero l old (at_board new asked) w mid x false
       → IsLawful k.names v.seen
       → HasRun k mid v (tickets_of asked.shown) (tickets_of after.shown) None found
       → HasRound l old new w v before after found
@@ -177,7 +179,7 @@ module _ (l : Layout) (old new : Wire) (w mid v : Writer) (before asked after : 
 
   -- one that closes was served
   pub round_last : (k : Layout) (found : Option End) → k ≡ l
-      → IsOneServed l old (at_board new asked) w mid x true
+      → IsOneServed TellsZero l old (at_board new asked) w mid x true
       → IsLawful k.names v.seen
       → HasRun k mid v (tickets_of asked.shown) (tickets_of after.shown) (Some end.Closed) found
       → HasRound l old new w v before after found
@@ -207,7 +209,7 @@ module _ (l : Layout) (old new : Wire) (w mid v : Writer) (before asked after : 
 -- a message wasn't answered whole
 pub round_over : (l : Layout) (old new : Wire) (w v : Writer) (before after : Told) (e : End)
     (unfinished : Option Exchange) → old.board ≡ state_of before → new.board ≡ state_of after
-    → IsOneOver l old new w v unfinished e → HasServed l old new w v before after e
+    → IsOneOver TellsZero l old new w v unfinished e → HasServed l old new w v before after e
 round_over l old new w v before after e unfinished from to one = record {
   answers = [];
   mid = old;

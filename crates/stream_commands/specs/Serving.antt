@@ -1,5 +1,6 @@
--- How an input is served to its end, where the running daemons run between its messages (own).
-use Rattle.std.specs.Prelude.{◌≡◌, ◌⊎◌, Bool, false, List, [], ◌∷◌, Option, Some, None}
+-- How an input is served to its end, where the running daemons run between its messages, by a clock
+-- that tells 0 alone (own).
+use Rattle.std.specs.Prelude.{ℕ, ◌≡◌, ◌⊎◌, Bool, false, List, [], ◌∷◌, Option, Some, None}
 use Rattle.io_edge.specs.Edge.{Appends}
 use Rattle.exchange_rules.specs.Following.{Writer}
 use Rattle.exchange_rules.specs.Rows.{Layout}
@@ -22,11 +23,15 @@ use Rattle.stream_commands.specs.declared.ending.Ending.TheVariants.{Done, Input
 abbrev pub state_of : Told → BoardState
 state_of b = board_state (Some b.shown) b.answers
 
--- a message was answered: the exchange is the writer's, and the board said what it was asked
+-- the clock of a script tells 0 alone
+abbrev pub TellsZero : ℕ → Type 0
+TellsZero n = n ≡ 0
+
+-- a message was answered: the exchange is the writer's, and the board said what it was asked at 0
 pub record IsAnsweredTo (l : Layout) (w v : Writer) (before after : Told) (a : Answer)
     : Type 0 where
-  pub exchanged : Exchanged l w v (a ∷ [])
-  pub said : Says (ask_of l.names a.message.request) (state_of before) (state_of after) a.outcome
+  pub exchanged : Exchanged TellsZero l w v (a ∷ [])
+  pub said : Says 0 (ask_of l.names a.message.request) (state_of before) (state_of after) a.outcome
 
 -- a message was answered, and then every running daemon of the board ran once; the law holds of all
 -- histories afterwards
@@ -69,7 +74,7 @@ pub record IsCutInRuns (l : Layout) (old new : Wire) (w v : Writer) (after : Tol
   pub asked : Told
   pub exchange : Exchange
   pub last : Bool
-  pub one : IsOneServed l old (record new { board = state_of asked }) w mid exchange last
+  pub one : IsOneServed TellsZero l old (record new { board = state_of asked }) w mid exchange last
   pub cut : IsCutShort l mid v (tickets_of asked.shown) (tickets_of after.shown)
 
 -- why no more was served: nothing more was done, or a message wasn't answered whole, or the daemons
@@ -77,7 +82,7 @@ pub record IsCutInRuns (l : Layout) (old new : Wire) (w v : Writer) (after : Tol
 abbrev pub StopsBy : Layout → Wire → Wire → Writer → Writer → Told → Told → End → Type 0
 StopsBy l old new w v before after e =
     IsAtRest old new w v before after e
-    ⊎ ((unfinished : Option Exchange) × IsOneOver l old new w v unfinished e)
+    ⊎ ((unfinished : Option Exchange) × IsOneOver TellsZero l old new w v unfinished e)
     ⊎ IsCutInRuns l old new w v after e
 
 -- an input was served to this end

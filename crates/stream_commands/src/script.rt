@@ -15,6 +15,7 @@ use daemon_board::Board;
 use daemon_steps::run_daemons;
 use form_request::Requests;
 use io_edge::{Gate, Sink, Source};
+use server_edge::NoClock;
 use std::alloc::Global;
 use std::thread::Threads;
 use stream_handler::{End, OneEnd, serve_one};
@@ -82,7 +83,9 @@ fn serve_round<R: Threads + Sync, I: Source, O: Sink, G: Gate>(
     ensures kept { result ≡ None → IsKept board.new.shown }
     ensures layout { layout_of site.new ≡ layout_of site.old }
 {
-    match serve_one(alloc, rt, site, board, requests, input, output, gate) {
+    match serve_one(
+        alloc, rt, site, board, requests, input, output, &NoClock, gate,
+    ) {
         OneEnd::Served(_) => run_board(alloc, rt, site, board, gate, None),
         OneEnd::Last(_) => run_board(alloc, rt, site, board, gate, Some(End::Closed)),
         OneEnd::Over { end, .. } => Some(end),

@@ -1,5 +1,5 @@
 -- What a board says to what it is asked, from what its calls say.
-use Rattle.std.proofs.Common.{◌≡◌, ◌++◌, Bool, Option, Some, None, refl, sym, ap, subst, ◌∙◌}
+use Rattle.std.proofs.Common.{◌≡◌, ℕ, ◌++◌, Bool, Option, Some, None, refl, sym, ap, subst, ◌∙◌}
 use Rattle.std.specs.Prelude.{Result, Ok, Err, IfOk, codes}
 use Rattle.tuple_values.specs.Document.{ByteList}
 use Rattle.tuple_values.specs.declared.memory.Memory.{Memory}
@@ -11,7 +11,7 @@ use Rattle.daemon_board.specs.declared.answers.Answers.{Answers}
 use Rattle.daemon_board.specs.declared.fault.BoardFault.{BoardFault}
 use Rattle.daemon_board.specs.declared.fault.BoardFault.TheVariants.{DaemonTaken, UnknownDaemon, BoardFull, OutOfMemory}
 use Rattle.stream_handler.specs.Asks.{ask_in, change_ask}
-use Rattle.stream_handler.specs.Boards.{Ask, BoardState, IsAsked, IsListed, IsStartTold, Makes, Says, after_change, board_state, change_told, change_word, lists, op_done}
+use Rattle.stream_handler.specs.Boards.{Ask, BoardState, IsAsked, IsListed, IsListing, IsStartTold, Makes, Says, after_change, board_state, change_told, change_word, op_done}
 use Rattle.stream_handler.specs.Choices.{Chooses, IsAnswerTo, IsChangeChosen, IsChosen, IsPrepared, IsStartAsked, IsStartChosen, IsStartPicked, Picks, picked, replied, start_replies, start_told}
 use Rattle.stream_handler.specs.Outcomes.{exception, reply_of}
 use Rattle.stream_handler.specs.Questions.{Asks, IsActionOf, MayTell, question_ask}
@@ -51,7 +51,7 @@ action_asks (Err text) (Ok q) is = ap question_ask is
 action_asks read (Err memory) is = tt
 
 -- a board that was listed is as it was
-pub listed_same : (old new : BoardState) (r : Result Outcome Memory) → IsAsked lists old new r
+pub listed_same : (old new : BoardState) (r : Result Outcome Memory) → IsListing old new r
     → new ≡ old
 listed_same old new (Ok o) l =
     board_same old new
@@ -61,11 +61,11 @@ listed_same old new (Err memory) same = same
 -- a list that lacked memory
 pub list_broken : (old new : BoardState) (memory : Memory) (r : Result Outcome Memory)
     → r ≡ Err memory → WhereTold old.shown new.shown (λ x y. y ≡ x) → new.answers ≡ old.answers
-    → IsAsked lists old new r
+    → IsListing old new r
 list_broken old new memory r e told counted =
     let same = board_same old new
     (told_same old.shown new.shown (λ x y. y ≡ x) (λ x y q. q) told) counted in
-    subst (λ x. IsAsked lists old new x) (sym e) same
+    subst (λ x. IsListing old new x) (sym e) same
 
 -- a list that was made
 pub list_prepared : (old new : BoardState) (o : Outcome) → IsListed old new o
@@ -75,33 +75,34 @@ list_prepared old new o l =
     (o, subst (λ x. IsListed old x o) same l, refl)
 
 -- a start that wasn't told for want of memory left the board
-pub untold_same : {A : Type 0} (d : NewDaemon) (checked : Checked) (told : StartTold A)
+pub untold_same : {A : Type 0} (now : ℕ) (d : NewDaemon) (checked : Checked) (told : StartTold A)
     (old new : BoardState) (answer : Result (Unit {0}) BoardFault) (r : Result A Memory)
     → IsStartPicked told answer r
     → WhereTold old.shown new.shown
-    (λ b c. Starts d.id (fresh b checked d.interval d.terminate 0) answer b c)
-    → new.answers ≡ after_start answer old.answers → IsStartAsked d checked told old new r
-untold_same d checked told old new answer (Ok x) picks said counted =
+    (λ b c. Starts d.id (fresh b checked d.interval d.terminate now) answer b c)
+    → new.answers ≡ after_start answer old.answers → IsStartAsked now d checked told old new r
+untold_same now d checked told old new answer (Ok x) picks said counted =
     record { answer = answer; picks = picks; said = said; counted = counted }
-untold_same d checked told old new (Ok u) (Err memory) picks said counted = absurd picks
-untold_same d checked told old new (Err (DaemonTaken taken)) (Err memory) picks said counted =
+untold_same now d checked told old new (Ok u) (Err memory) picks said counted = absurd picks
+untold_same now d checked told old new (Err (DaemonTaken taken)) (Err memory) picks said counted =
     absurd picks
-untold_same d checked told old new (Err UnknownDaemon) (Err memory) picks said counted =
+untold_same now d checked told old new (Err UnknownDaemon) (Err memory) picks said counted =
     board_same old new (told_same old.shown new.shown
-    (λ b c. Starts d.id (fresh b checked d.interval d.terminate 0) (Err UnknownDaemon) b c)
+    (λ b c. Starts d.id (fresh b checked d.interval d.terminate now) (Err UnknownDaemon) b c)
     (λ x y q. absurd q) said) counted
-untold_same d checked told old new (Err BoardFull) (Err memory) picks said counted = absurd picks
-untold_same d checked told old new (Err OutOfMemory) (Err memory) picks said counted =
+untold_same now d checked told old new (Err BoardFull) (Err memory) picks said counted =
+    absurd picks
+untold_same now d checked told old new (Err OutOfMemory) (Err memory) picks said counted =
     board_same old new (told_same old.shown new.shown
-    (λ b c. Starts d.id (fresh b checked d.interval d.terminate 0) (Err OutOfMemory) b c)
+    (λ b c. Starts d.id (fresh b checked d.interval d.terminate now) (Err OutOfMemory) b c)
     (λ x y q. q) said) counted
 
 -- a change that was asked for is told so
-change_said : (what : Change) (id : ByteList) (before after : BoardState) (o : Outcome)
-    → IsChangeChosen what id (op_done (change_word what) id)
+change_said : (now : ℕ) (what : Change) (id : ByteList) (before after : BoardState) (o : Outcome)
+    → IsChangeChosen now what id (op_done (change_word what) id)
     (exception (codes "UnknownDaemon " ++ id)) before after o
-    → Says (change_ask what id) before after o
-change_said what id before after o c = by_change what c.answer c.picks c.told c.counted
+    → Says now (change_ask what id) before after o
+change_said now what id before after o c = by_change what c.answer c.picks c.told c.counted
   where
     is_told : (what : Change) (answer : Result (Unit {0}) BoardFault)
         → o ≡ picked (op_done (change_word what) id)
@@ -113,9 +114,9 @@ change_said what id before after o c = by_change what c.answer c.picks c.told c.
     by_change : (what : Change) (answer : Result (Unit {0}) BoardFault)
         → o ≡ picked (op_done (change_word what) id)
         (exception (codes "UnknownDaemon " ++ id)) answer
-        → WhereTold before.shown after.shown (Makes what id answer)
+        → WhereTold before.shown after.shown (Makes now what id answer)
         → after.answers ≡ after_change what answer before.answers
-        → Says (change_ask what id) before after o
+        → Says now (change_ask what id) before after o
     by_change Stop answer is told counted =
         record { answer = answer; outcome = is_told Stop answer is; told = told; counted = counted }
     by_change Start answer is told counted =
@@ -124,10 +125,10 @@ change_said what id before after o c = by_change what c.answer c.picks c.told c.
         record { answer = answer; outcome = is_told Kill answer is; told = told; counted = counted }
 
 -- a start that was asked for is told so
-start_said : (d : NewDaemon) (checked : Checked) (before after : BoardState) (o : Outcome)
-    → IsStartChosen d checked (start_told d.id) before after o
-    → Says (question_ask (question.Start d checked)) before after o
-start_said d checked before after o c = record {
+start_said : (now : ℕ) (d : NewDaemon) (checked : Checked) (before after : BoardState) (o : Outcome)
+    → IsStartChosen now d checked (start_told d.id) before after o
+    → Says now (question_ask (question.Start d checked)) before after o
+start_said now d checked before after o c = record {
   expr = checked;
   tree = refl;
   answer = c.answer;
@@ -145,50 +146,52 @@ start_said d checked before after o c = record {
     is_told (Err OutOfMemory) is = is
 
 -- what was picked of all that a question may be answered is what the board said to it
-pub chosen_said : (q : Question) (before after : BoardState) (p : Prepared Outcome) (o : Outcome)
-    → IsPrepared q before p → Chooses p before after o
-    → MayTell q o × Says (question_ask q) before after o
-chosen_said (question.Nothing a) before after p o is c =
-    let said = subst (λ x. Chooses x before after o) is c in (said.1, said.0)
-chosen_said question.List before after p o is c =
-    let said = subst (λ x. Chooses x before after o) is.2 c in (
+pub chosen_said : (now : ℕ) (q : Question) (before after : BoardState) (p : Prepared Outcome)
+    (o : Outcome)
+    → IsPrepared q before p → Chooses now p before after o
+    → MayTell q o × Says now (question_ask q) before after o
+chosen_said now (question.Nothing a) before after p o is c =
+    let said = subst (λ x. Chooses now x before after o) is c in (said.1, said.0)
+chosen_said now question.List before after p o is c =
+    let said = subst (λ x. Chooses now x before after o) is.2 c in (
       tt,
       subst (λ x. IsListed before after x) (sym said.1)
           (subst (λ x. IsListed before x is.0) (sym said.0) is.1),
     )
-chosen_said (question.Change what id) before after p o is c =
-    (tt, change_said what id before after o (subst (λ x. Chooses x before after o) is c))
-chosen_said (question.Start d checked) before after p o is c =
-    (tt, start_said d checked before after o (subst (λ x. Chooses x before after o) is c))
+chosen_said now (question.Change what id) before after p o is c =
+    (tt, change_said now what id before after o (subst (λ x. Chooses now x before after o) is c))
+chosen_said now (question.Start d checked) before after p o is c =
+    (tt, start_said now d checked before after o (subst (λ x. Chooses now x before after o) is c))
 
 -- the response that was picked is that to an outcome that would have been picked
-pub chosen_reply : (closes : Bool) (p : Prepared Outcome) (before after : BoardState)
-    (bytes : ByteList) → Chooses (replied closes p) before after bytes
-    → (o : Outcome) × Chooses p before after o × (bytes ≡ reply_of closes 0 o)
-chosen_reply closes (prepared.Told a) before after bytes c = (a, (c.0, refl), c.1)
-chosen_reply closes (prepared.Change what id made unknown) before after bytes c =
+pub chosen_reply : (now : ℕ) (closes : Bool) (millis : ℕ) (p : Prepared Outcome)
+    (before after : BoardState) (bytes : ByteList)
+    → Chooses now (replied closes millis p) before after bytes
+    → (o : Outcome) × Chooses now p before after o × (bytes ≡ reply_of closes millis o)
+chosen_reply now closes millis (prepared.Told a) before after bytes c = (a, (c.0, refl), c.1)
+chosen_reply now closes millis (prepared.Change what id made unknown) before after bytes c =
     by_answer c.answer c.picks c.told c.counted
   where
     by_answer : (answer : Result (Unit {0}) BoardFault)
-        → bytes ≡ picked (reply_of closes 0 made) (reply_of closes 0 unknown) answer
-        → WhereTold before.shown after.shown (Makes what id answer)
+        → bytes ≡ picked (reply_of closes millis made) (reply_of closes millis unknown) answer
+        → WhereTold before.shown after.shown (Makes now what id answer)
         → after.answers ≡ after_change what answer before.answers
-        → (o : Outcome) × Chooses (prepared.Change what id made unknown) before after o
-        × (bytes ≡ reply_of closes 0 o)
+        → (o : Outcome) × Chooses now (prepared.Change what id made unknown) before after o
+        × (bytes ≡ reply_of closes millis o)
     by_answer (Ok u) is told counted =
         (made, record { answer = Ok u; picks = refl; told = told; counted = counted }, is)
     by_answer (Err fault) is told counted =
         (unknown, record { answer = Err fault; picks = refl; told = told; counted = counted }, is)
-chosen_reply closes (prepared.Start d checked told) before after bytes c =
+chosen_reply now closes millis (prepared.Start d checked told) before after bytes c =
     by_answer c.answer c.picks c.said c.counted
   where
     by_answer : (answer : Result (Unit {0}) BoardFault)
-        → Picks (start_replies closes told) answer bytes
+        → Picks (start_replies closes millis told) answer bytes
         → WhereTold before.shown after.shown
-        (λ b c. Starts d.id (fresh b checked d.interval d.terminate 0) answer b c)
+        (λ b c. Starts d.id (fresh b checked d.interval d.terminate now) answer b c)
         → after.answers ≡ after_start answer before.answers
-        → (o : Outcome) × Chooses (prepared.Start d checked told) before after o
-        × (bytes ≡ reply_of closes 0 o)
+        → (o : Outcome) × Chooses now (prepared.Start d checked told) before after o
+        × (bytes ≡ reply_of closes millis o)
     by_answer (Ok u) is said counted =
         (told.started, record { answer = Ok u; picks = refl; said = said; counted = counted }, is)
     by_answer (Err (DaemonTaken taken)) is said counted =
@@ -201,25 +204,26 @@ chosen_reply closes (prepared.Start d checked told) before after bytes c =
     by_answer (Err OutOfMemory) is said counted = absurd is
 
 -- the answer that was picked from the board as it was
-pub answer_picked : (q : Question) (old mid new : BoardState) (p : Prepared Outcome)
-    (r : Result Outcome Memory) → IsPrepared q old p → mid ≡ old → IsChosen p mid new r
-    → IsAnswerTo q old new r
-answer_picked q old mid new p (Ok o) is same c =
-    chosen_said q old new p o is (subst (λ x. Chooses p x new o) same c)
-answer_picked q old mid new p (Err memory) is same c = c ∙ same
+pub answer_picked : (now : ℕ) (q : Question) (old mid new : BoardState) (p : Prepared Outcome)
+    (r : Result Outcome Memory) → IsPrepared q old p → mid ≡ old → IsChosen now p mid new r
+    → IsAnswerTo now q old new r
+answer_picked now q old mid new p (Ok o) is same c =
+    chosen_said now q old new p o is (subst (λ x. Chooses now p x new o) same c)
+answer_picked now q old mid new p (Err memory) is same c = c ∙ same
 
 -- want of memory when the answers were made
-pub unprepared : (q : Question) (old new : BoardState) (r : Result Outcome Memory) (memory : Memory)
-    → r ≡ Err memory → new ≡ old → IsAnswerTo q old new r
-unprepared q old new r memory e same = subst (λ x. IsAnswerTo q old new x) (sym e) same
+pub unprepared : (now : ℕ) (q : Question) (old new : BoardState) (r : Result Outcome Memory)
+    (memory : Memory) → r ≡ Err memory → new ≡ old → IsAnswerTo now q old new r
+unprepared now q old new r memory e same = subst (λ x. IsAnswerTo now q old new x) (sym e) same
 
 -- what was answered to a question is what was asked
-pub asked_by : (ask : Ask) (q : Question) (old new : BoardState) (r : Result Outcome Memory)
-    → Asks ask q → IsAnswerTo q old new r → IsAsked ask old new r
-asked_by ask q old new (Ok o) asks said = subst (λ a. Says a old new o) asks said.1
-asked_by ask q old new (Err memory) asks same = same
+pub asked_by : (now : ℕ) (ask : Ask) (q : Question) (old new : BoardState)
+    (r : Result Outcome Memory) → Asks ask q → IsAnswerTo now q old new r
+    → IsAsked now ask old new r
+asked_by now ask q old new (Ok o) asks said = subst (λ a. Says now a old new o) asks said.1
+asked_by now ask q old new (Err memory) asks same = same
 
 -- want of memory before the board was asked
-pub unasked : (ask : Ask) (b : BoardState) (r : Result Outcome Memory) (memory : Memory)
-    → r ≡ Err memory → IsAsked ask b b r
-unasked ask b r memory e = subst (λ x. IsAsked ask b b x) (sym e) refl
+pub unasked : (now : ℕ) (ask : Ask) (b : BoardState) (r : Result Outcome Memory) (memory : Memory)
+    → r ≡ Err memory → IsAsked now ask b b r
+unasked now ask b r memory e = subst (λ x. IsAsked now ask b b x) (sym e) refl

@@ -91,11 +91,11 @@ pub carried_before : (old new : Writer) (p : Outcome → Course Outcome) (r : Re
 carried_before old new p r memory e b = subst (λ x. CarriedWith old new p x) (sym e) b
 
 -- an answer to a question, by what the writer did and the board said
-pub told_answer : (old new : Writer) (p : Outcome → Course Outcome) (q : Question)
+pub told_answer : (now : ℕ) (old new : Writer) (p : Outcome → Course Outcome) (q : Question)
     (b c : BoardState) (r : Result Outcome Memory) → CarriedTo old new p (Ok q)
-    → IsAnswerTo q b c r → CarriedWith old new p r
-told_answer old new p q b c (Ok o) carried said = carried o said.0
-told_answer old new p q b c (Err memory) carried same = question_begun old new p q carried
+    → IsAnswerTo now q b c r → CarriedWith old new p r
+told_answer now old new p q b c (Ok o) carried said = carried o said.0
+told_answer now old new p q b c (Err memory) carried same = question_begun old new p q carried
 
 -- so is one that says none that only reads
 pub plain_told : (w : Writer) (l : Layout) (read : Result ExprTree ByteList) (text : ByteList)

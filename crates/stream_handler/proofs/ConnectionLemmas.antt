@@ -24,9 +24,10 @@ use Rattle.stream_handler.proofs.ServeLemmas.{over_join, served_join}
 use Rattle.stream_handler.proofs.WireLemmas.{appends_none, came_none, counts_same}
 
 -- nothing was served yet
-pub served_none : (l : Layout) (wire : Wire) (w : Writer) → record_of w ≡ nothing
-    → IsServed l wire wire w w []
-served_none l wire w fresh = record {
+pub served_none : (tells : ℕ → Type 0) (l : Layout) (wire : Wire) (w : Writer)
+    → record_of w ≡ nothing
+    → IsServed tells l wire wire w w []
+served_none tells l wire w fresh = record {
   counts = counts_same wire;
   passed = record {
     bytes = [];
@@ -45,9 +46,10 @@ served_none l wire w fresh = record {
 }
 
 -- want of memory between two messages
-pub over_here : (l : Layout) (old new : Wire) (w v : Writer) (answers : List Answer)
-    → IsServed l old new w v answers → IsOver l old new w v answers (record_of v) end.OutOfMemory
-over_here l old new w v answers s = record {
+pub over_here : (tells : ℕ → Type 0) (l : Layout) (old new : Wire) (w v : Writer)
+    (answers : List Answer) → IsServed tells l old new w v answers
+    → IsOver tells l old new w v answers (record_of v) end.OutOfMemory
+over_here tells l old new w v answers s = record {
   counts = s.counts;
   ends = inl (record {
     ends = record {
@@ -66,10 +68,11 @@ over_here l old new w v answers s = record {
 }
 
 -- as many as a connection has
-over_full : (l : Layout) (old new : Wire) (w v : Writer) (answers : List Answer)
-    → IsServed l old new w v answers → length answers ≡ most_requests
-    → IsOver l old new w v answers (record_of v) end.Closed
-over_full l old new w v answers s full = record {
+over_full : (tells : ℕ → Type 0) (l : Layout) (old new : Wire) (w v : Writer)
+    (answers : List Answer)
+    → IsServed tells l old new w v answers → length answers ≡ most_requests
+    → IsOver tells l old new w v answers (record_of v) end.Closed
+over_full tells l old new w v answers s full = record {
   counts = s.counts;
   ends = inl (record {
     ends = (s.passed, s.written, inr full);
@@ -93,19 +96,21 @@ exchanges_more exchanges answers a x e is =
     ∙ sym (map-append (λ (b : Answer). b.exchange) answers (a ∷ []))
 
 -- one more was served
-pub served_more : (l : Layout) (old mid new : Wire) (u v w : Writer) (answers : List Answer)
-    (x : Exchange) (last : Bool) → IsServed l old mid u v answers
-    → (s : IsOneServed l mid new v w x last) → IsServed l old new u w (answers ++ s.answer ∷ [])
-served_more l old mid new u v w answers x last p s =
-    served_join l old mid new u v w answers (s.answer ∷ []) p s.served
+pub served_more : (tells : ℕ → Type 0) (l : Layout) (old mid new : Wire) (u v w : Writer)
+    (answers : List Answer) (x : Exchange) (last : Bool) → IsServed tells l old mid u v answers
+    → (s : IsOneServed tells l mid new v w x last)
+    → IsServed tells l old new u w (answers ++ s.answer ∷ [])
+served_more tells l old mid new u v w answers x last p s =
+    served_join tells l old mid new u v w answers (s.answer ∷ []) p s.served
 
 -- one more was served, and closes
-abbrev pub over_closed : (l : Layout) (old mid new : Wire) (u v w : Writer) (answers : List Answer)
-    (exchanges : List Exchange) (x : Exchange) → exchanges ≡ exchanges_of answers
-    → IsServed l old mid u v answers → IsOneServed l mid new v w x true
-    → IsSession l old new u w (exchanges ++ x ∷ []) (record_of w) end.Closed
-over_closed l old mid new u v w answers exchanges x e p s =
-    let all = served_more l old mid new u v w answers x true p s in
+abbrev pub over_closed : (tells : ℕ → Type 0) (l : Layout) (old mid new : Wire) (u v w : Writer)
+    (answers : List Answer) (exchanges : List Exchange) (x : Exchange)
+    → exchanges ≡ exchanges_of answers
+    → IsServed tells l old mid u v answers → IsOneServed tells l mid new v w x true
+    → IsSession tells l old new u w (exchanges ++ x ∷ []) (record_of w) end.Closed
+over_closed tells l old mid new u v w answers exchanges x e p s =
+    let all = served_more tells l old mid new u v w answers x true p s in
     record {
       answers = answers ++ s.answer ∷ [];
       exchanges_are = exchanges_more exchanges answers s.answer x e s.exchange;
@@ -121,15 +126,15 @@ over_closed l old mid new u v w answers exchanges x e p s =
     }
 
 -- it was over, with no more exchanges
-abbrev pub over_none : (l : Layout) (old mid new : Wire) (u v w : Writer) (answers : List Answer)
-    (exchanges : List Exchange) (e : End) → exchanges ≡ exchanges_of answers
-    → IsServed l old mid u v answers
-    → IsUnanswered l mid new v w e → IsSession l old new u w exchanges (record_of w) e
-over_none l old mid new u v w answers exchanges e is p o = record {
+abbrev pub over_none : (tells : ℕ → Type 0) (l : Layout) (old mid new : Wire) (u v w : Writer)
+    (answers : List Answer) (exchanges : List Exchange) (e : End) → exchanges ≡ exchanges_of answers
+    → IsServed tells l old mid u v answers
+    → IsUnanswered tells l mid new v w e → IsSession tells l old new u w exchanges (record_of w) e
+over_none tells l old mid new u v w answers exchanges e is p o = record {
   answers = answers;
   exchanges_are = is;
-  over = subst (λ a. IsOver l old new u w a (record_of w) e) (append-nil answers)
-      (over_join l old mid new u v w answers [] (record_of w) e p o.unclosed o.over);
+  over = subst (λ a. IsOver tells l old new u w a (record_of w) e) (append-nil answers)
+      (over_join tells l old mid new u v w answers [] (record_of w) e p o.unclosed o.over);
 }
 
 -- a failure of the sink is no close
@@ -137,10 +142,10 @@ pub not_closing : end.WriteFault ≢ end.Closed
 not_closing = λ e. cc
 
 -- a reply in part ends a connection
-pub part_over : (l : Layout) (old new : Wire) (w v : Writer) (x : Exchange)
-    → (s : IsAnsweredInPart l old new w v x)
-    → IsOver l old new w v (s.answer ∷ []) (record_of v) end.WriteFault
-part_over l old new w v x s = record {
+pub part_over : (tells : ℕ → Type 0) (l : Layout) (old new : Wire) (w v : Writer) (x : Exchange)
+    → (s : IsAnsweredInPart tells l old new w v x)
+    → IsOver tells l old new w v (s.answer ∷ []) (record_of v) end.WriteFault
+part_over tells l old new w v x s = record {
   counts = s.counts;
   ends = inl (record {
     ends = (s.rose, inr s.cut);
@@ -151,37 +156,41 @@ part_over l old new w v x s = record {
 }
 
 -- it was over, with one more
-abbrev pub over_one : (l : Layout) (old mid new : Wire) (u v w : Writer) (answers : List Answer)
-    (exchanges : List Exchange) (x : Exchange) → exchanges ≡ exchanges_of answers
-    → IsServed l old mid u v answers → IsAnsweredInPart l mid new v w x
-    → IsSession l old new u w (exchanges ++ x ∷ []) (record_of w) end.WriteFault
-over_one l old mid new u v w answers exchanges x is p s = record {
+abbrev pub over_one : (tells : ℕ → Type 0) (l : Layout) (old mid new : Wire) (u v w : Writer)
+    (answers : List Answer) (exchanges : List Exchange) (x : Exchange)
+    → exchanges ≡ exchanges_of answers
+    → IsServed tells l old mid u v answers → IsAnsweredInPart tells l mid new v w x
+    → IsSession tells l old new u w (exchanges ++ x ∷ []) (record_of w) end.WriteFault
+over_one tells l old mid new u v w answers exchanges x is p s = record {
   answers = answers ++ s.answer ∷ [];
   exchanges_are = exchanges_more exchanges answers s.answer x is s.exchange;
-  over = over_join l old mid new u v w answers (s.answer ∷ []) (record_of w) end.WriteFault p not_closing
-      (part_over l mid new v w x s);
+  over = over_join tells l old mid new u v w answers (s.answer ∷ []) (record_of w) end.WriteFault p
+      not_closing (part_over tells l mid new v w x s);
 }
 
 -- exchanges don't depend on what a writer's record holds
-pub exchanged_of : (l : Layout) (w v : Writer) (answers : List Answer) → Exchanged l (cleared w) v answers
-    → Exchanged l w (cleared v) answers
-exchanged_of l w v answers x =
+pub exchanged_of : (tells : ℕ → Type 0) (l : Layout) (w v : Writer) (answers : List Answer)
+    → Exchanged tells l (cleared w) v answers
+    → Exchanged tells l w (cleared v) answers
+exchanged_of tells l w v answers x =
     record { same = x.same; grown = x.grown; sound = x.sound; looked = x.looked }
 
 -- a connection that began with an empty record, and left its record
-abbrev pub session_cleared : (l : Layout) (old new : Wire) (w v : Writer) (exchanges : List Exchange)
-    (rest : Record) (e : End) → IsSession l old new (cleared w) v exchanges rest e
-    → IsSession l old new w (cleared v) exchanges rest e
-session_cleared l old new w v exchanges rest e s = record {
+abbrev pub session_cleared : (tells : ℕ → Type 0) (l : Layout) (old new : Wire) (w v : Writer)
+    (exchanges : List Exchange) (rest : Record) (e : End)
+    → IsSession tells l old new (cleared w) v exchanges rest e
+    → IsSession tells l old new w (cleared v) exchanges rest e
+session_cleared tells l old new w v exchanges rest e s = record {
   answers = s.answers;
   exchanges_are = s.exchanges_are;
   over = record { counts = s.over.counts; ends = ends s.over.ends };
 }
   where
-    ends : EndsBy l old new (cleared w) v s.answers rest e → EndsBy l old new w (cleared v) s.answers rest e
+    ends : EndsBy tells l old new (cleared w) v s.answers rest e
+        → EndsBy tells l old new w (cleared v) s.answers rest e
     ends (inl i) = inl (record {
       ends = i.ends;
-      exchanged = exchanged_of l w v s.answers i.exchanged;
+      exchanged = exchanged_of tells l w v s.answers i.exchanged;
       boards = i.boards;
       recorded = i.recorded;
     })
@@ -192,7 +201,7 @@ session_cleared l old new w v exchanges rest e s = record {
         passed = b.passed;
         written = b.written;
         mid = cleared b.mid;
-        exchanged = exchanged_of l w b.mid s.answers b.exchanged;
+        exchanged = exchanged_of tells l w b.mid s.answers b.exchanged;
         same = b.same;
         grown = b.grown;
         accesses = b.accesses;
@@ -207,16 +216,17 @@ session_cleared l old new w v exchanges rest e s = record {
     )
 
 -- a whole connection, between the two times at which the record is taken
-pub session_of : {l m : Layout} {held start : Held} {left : Option (List ℕ)} {reads : ℕ}
+pub session_of : {tells : ℕ → Type 0} {l m : Layout} {held start : Held} {left : Option (List ℕ)}
+    {reads : ℕ}
     {written : Option (List ℕ)} {writes : ℕ} {board : BoardState} {new : Wire} {w u v z : Writer}
     {exchanges items : List Exchange} {rest : Record} {e : End} → m ≡ l → held ≡ start → u ≡ cleared w
     → z ≡ cleared v → exchanges ≡ items → rest ≡ record_of v
-    → IsBounded m (wire held left reads written writes board) new u v items (record_of v) e
-    → IsBounded l (wire start left reads written writes board) new w z exchanges rest e
+    → IsBounded tells m (wire held left reads written writes board) new u v items (record_of v) e
+    → IsBounded tells l (wire start left reads written writes board) new w z exchanges rest e
 session_of same begins fresh left are told s =
     let a = rw (same, begins, fresh) at s in
     rw (left, are, told)
-    (record { session = session_cleared _ _ _ _ _ _ _ _ a.session; within = a.within })
+    (record { session = session_cleared _ _ _ _ _ _ _ _ _ a.session; within = a.within })
 
 -- fewer were answered than a connection has
 are_few : (n c : ℕ) → n ≡ c → c < 10000 → n < most_requests
@@ -251,97 +261,104 @@ record_is r v m o =
     ∙ ap (λ (own : List OwnMark). let x : Record = record { marks = v.marks; own = own } in x) o
 
 -- a connection goes on: so many messages were answered, with these exchanges, and none closes
-pub record GoesOn (l m : Layout) (old new : Wire) (w v : Writer) (exchanges : List Exchange) (count : ℕ)
-    : Type 0 where
+pub record GoesOn (tells : ℕ → Type 0) (l m : Layout) (old new : Wire) (w v : Writer)
+    (exchanges : List Exchange) (count : ℕ) : Type 0 where
   pub same : m ≡ l
   pub answers : List Answer
   pub exchanges_are : exchanges ≡ exchanges_of answers
   pub counted : length answers ≡ count
   pub are_open : AreOpen answers
-  pub served : IsServed l old new w v answers
+  pub served : IsServed tells l old new w v answers
 
 -- it goes on, or is over
-abbrev pub LeadsTo : Layout → Layout → Wire → Wire → Writer → Writer → List Exchange → ℕ → Option End
-    → Type 0
-LeadsTo l m old new w v exchanges count None = GoesOn l m old new w v exchanges count
-LeadsTo l m old new w v exchanges count (Some e) =
-    IsBounded l old new w v exchanges (record_of v) e
+abbrev pub LeadsTo : (ℕ → Type 0) → Layout → Layout → Wire → Wire → Writer → Writer → List Exchange
+    → ℕ → Option End → Type 0
+LeadsTo tells l m old new w v exchanges count None =
+    GoesOn tells l m old new w v exchanges count
+LeadsTo tells l m old new w v exchanges count (Some e) =
+    IsBounded tells l old new w v exchanges (record_of v) e
 
 -- at its start
-pub goes_at_start : {l : Layout} {start : Wire} {w : Writer} {exchanges : List Exchange}
-    → exchanges ≡ [] → record_of w ≡ nothing → GoesOn l l start start w w exchanges 0
-goes_at_start {l} {start} {w} none fresh = record {
+pub goes_at_start : {tells : ℕ → Type 0} {l : Layout} {start : Wire} {w : Writer}
+    {exchanges : List Exchange}
+    → exchanges ≡ [] → record_of w ≡ nothing → GoesOn tells l l start start w w exchanges 0
+goes_at_start {tells} {l} {start} {w} none fresh = record {
   same = refl;
   answers = [];
   exchanges_are = none;
   counted = refl;
   are_open = tt;
-  served = served_none l start w fresh;
+  served = served_none tells l start w fresh;
 }
 
 -- where memory is wanting
-pub ends_of_memory : {l m : Layout} {old new : Wire} {w v : Writer} {xs ys : List Exchange} {count : ℕ}
-    → GoesOn l m old new w v xs count → count < 10000 → ys ≡ xs
-    → IsBounded l old new w v ys (record_of v) end.OutOfMemory
-ends_of_memory {l} {m} {old} {new} {w} {v} p few same = record {
+pub ends_of_memory : {tells : ℕ → Type 0} {l m : Layout} {old new : Wire} {w v : Writer}
+    {xs ys : List Exchange} {count : ℕ}
+    → GoesOn tells l m old new w v xs count → count < 10000 → ys ≡ xs
+    → IsBounded tells l old new w v ys (record_of v) end.OutOfMemory
+ends_of_memory {tells} {l} {m} {old} {new} {w} {v} p few same = record {
   session = record {
     answers = p.answers;
     exchanges_are = same ∙ p.exchanges_are;
-    over = over_here l old new w v p.answers p.served;
+    over = over_here tells l old new w v p.answers p.served;
   };
   within = within_few p.answers end.OutOfMemory (are_few _ _ p.counted few) p.are_open;
 }
 
 -- with as many as it may have
-pub ends_when_full : {l m : Layout} {old new : Wire} {w v : Writer} {xs : List Exchange} {count : ℕ}
-    → GoesOn l m old new w v xs count → count ≡ 10000
-    → IsBounded l old new w v xs (record_of v) end.Closed
-ends_when_full {l} {m} {old} {new} {w} {v} p is =
+pub ends_when_full : {tells : ℕ → Type 0} {l m : Layout} {old new : Wire} {w v : Writer}
+    {xs : List Exchange} {count : ℕ}
+    → GoesOn tells l m old new w v xs count → count ≡ 10000
+    → IsBounded tells l old new w v xs (record_of v) end.Closed
+ends_when_full {tells} {l} {m} {old} {new} {w} {v} p is =
     let full = p.counted ∙ is ∙ sym most_is in
     record {
       session = record {
         answers = p.answers;
         exchanges_are = p.exchanges_are;
-        over = over_full l old new w v p.answers p.served full;
+        over = over_full tells l old new w v p.answers p.served full;
       };
       within = omega (arith, full);
     }
 
-module _ (l m : Layout) (old mid new : Wire) (u v w : Writer) (xs : List Exchange) (n : ℕ)
-    (p : GoesOn l m old mid u v xs n) (few : length p.answers < most_requests) where
+module _ (tells : ℕ → Type 0) (l m : Layout) (old mid new : Wire) (u v w : Writer)
+    (xs : List Exchange) (n : ℕ) (p : GoesOn tells l m old mid u v xs n)
+    (few : length p.answers < most_requests) where
   -- one message further
-  led : (one : OneEnd) → IsOneEnd l mid new v w one
-      → LeadsTo l l old new u w (xs ++ exchanges_in one) (n + 1) (end_of one)
+  led : (one : OneEnd) → IsOneEnd tells l mid new v w one
+      → LeadsTo tells l l old new u w (xs ++ exchanges_in one) (n + 1) (end_of one)
   led (Served x) s = record {
     same = refl;
     answers = p.answers ++ s.answer ∷ [];
     exchanges_are = exchanges_more xs p.answers s.answer x p.exchanges_are s.exchange;
     counted = omega (arith, length-append p.answers (s.answer ∷ []), p.counted);
     are_open = open_more p.answers s.answer p.are_open s.closes;
-    served = served_more l old mid new u v w p.answers x false p.served s;
+    served = served_more tells l old mid new u v w p.answers x false p.served s;
   }
   led (Last x) s = record {
-    session = over_closed l old mid new u v w p.answers xs x p.exchanges_are p.served s;
+    session = over_closed tells l old mid new u v w p.answers xs x p.exchanges_are p.served s;
     within = are_fitting p.answers s.answer few;
   }
   led (Over e None) s =
       rw append-nil (record {
-        session = over_none l old mid new u v w p.answers xs e p.exchanges_are p.served s;
+        session = over_none tells l old mid new u v w p.answers xs e p.exchanges_are p.served s;
         within = within_few p.answers e few p.are_open;
       })
   led (Over e (Some x)) s =
       rw s.0 (record {
-        session = over_one l old mid new u v w p.answers xs x p.exchanges_are p.served s.1;
+        session = over_one tells l old mid new u v w p.answers xs x p.exchanges_are p.served s.1;
         within = are_fitting p.answers s.1.answer few;
       })
 
 -- one more message was served: the connection goes on, or is over
-pub leads_to : {l m k : Layout} {old mid : Wire} (new : Wire) {u v : Writer} (w : Writer)
-    {xs ys zs : List Exchange} {n : ℕ} (one : OneEnd) {kept : Option End} (r : Option End)
-    → GoesOn l m old mid u v xs n → n < 10000 → ys ≡ xs → IsOneEnd m mid new v w one → k ≡ m
+pub leads_to : {tells : ℕ → Type 0} {l m k : Layout} {old mid : Wire} (new : Wire) {u v : Writer}
+    (w : Writer) {xs ys zs : List Exchange} {n : ℕ} (one : OneEnd) {kept : Option End}
+    (r : Option End)
+    → GoesOn tells l m old mid u v xs n → n < 10000 → ys ≡ xs → IsOneEnd tells m mid new v w one
+    → k ≡ m
     → zs ≡ ys ++ exchanges_in one → kept ≡ end_of one → kept ≡ r
-    → LeadsTo l k old new u w zs (n + 1) r
+    → LeadsTo tells l k old new u w zs (n + 1) r
 leads_to new w one r p less room s same is end are =
     let t = rw p.same at s in
     rw (same ∙ p.same, is, room, sym are ∙ end)
-    (led _ _ _ _ _ _ _ _ _ _ p (are_few _ _ p.counted less) one t)
+    (led _ _ _ _ _ _ _ _ _ _ _ p (are_few _ _ p.counted less) one t)

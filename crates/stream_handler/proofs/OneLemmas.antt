@@ -43,34 +43,39 @@ not_closed names old new end.WriteFault q = λ x. cc
 not_closed names old new end.OutOfMemory q = λ x. cc
 
 -- no message is whole
-pub over_none : (l : Layout) (names : List NameShards) (old new : Wire) (w v : Writer) (e : End)
+pub over_none : (tells : ℕ → Type 0) (l : Layout) (names : List NameShards) (old new : Wire)
+    (w v : Writer) (e : End)
     → names ≡ l.names → v ≡ cleared w → new.board ≡ old.board → IsHalted names old new e
-    → IsUnanswered l old new w v e
-over_none l names old new w v e same clear still h =
+    → IsUnanswered tells l old new w v e
+over_none tells l names old new w v e same clear still h =
     let h' = subst (λ n. IsHalted n old new e) same h in
     record {
       unclosed = not_closed l.names old new e h'.ends;
-      over = subst (λ v. IsOver l old new w v [] (record_of v) e) (sym clear) (record {
+      over = subst (λ v. IsOver tells l old new w v [] (record_of v) e) (sym clear) (record {
         counts = h'.counts;
         ends = inl (record {
           ends = h'.ends;
-          exchanged = exchanged_none l w;
+          exchanged = exchanged_none tells l w;
           boards = still;
           recorded = refl;
         });
       });
     }
 
-module _ (l : Layout) (start mid : Wire) (w v : Writer) (request : Request)
+module _ (tells : ℕ → Type 0) (l : Layout) (start mid : Wire) (w v : Writer) (request : Request)
     (whole : IsWhole l.names start mid request) (written : Option (List ℕ)) (writes : ℕ)
     (board : BoardState) where
   -- the connection once the reply was tried
   abbrev pub now : Wire
   now = wire mid.held mid.left mid.reads written writes board
 
-  abbrev pub answer_of : Exchange → Outcome → Answer
-  answer_of x o =
-      record { message = record { asks = whole.asks; request = request }; exchange = x; outcome = o }
+  abbrev pub answer_of : ℕ → Exchange → Outcome → Answer
+  answer_of time x o = record {
+    message = record { asks = whole.asks; request = request };
+    now = time;
+    exchange = x;
+    outcome = o;
+  }
 
   passed : Passed l.names start now (record { asks = whole.asks; request = request } ∷ []) false
   passed = record {
@@ -86,36 +91,38 @@ module _ (l : Layout) (start mid : Wire) (w v : Writer) (request : Request)
   }
 
   -- what is written of a message that is answered
-  one_reply : (x : Exchange) (o : Outcome)
-      → said whole.asks ++ reply_of request.closes x.millis o ≡ reply_to (answer_of x o) ++ []
-  one_reply x o = sym (append-nil (reply_to (answer_of x o)))
+  one_reply : (time : ℕ) (x : Exchange) (o : Outcome)
+      → said whole.asks ++ reply_of request.closes x.millis o ≡ reply_to (answer_of time x o) ++ []
+  one_reply time x o = sym (append-nil (reply_to (answer_of time x o)))
 
-  left_nothing : (x : Exchange) (o : Outcome) → IsCarriedOut l (cleared w) v start.board board request x o
+  left_nothing : (x : Exchange) (o : Outcome)
+      → IsCarriedOut tells l (cleared w) v start.board board request x o
       → record_of v ≡ nothing
   left_nothing x o c = ap record_of c.rest
 
   -- what the board said to it
   one_board : (x : Exchange) (o : Outcome)
-      → IsCarriedOut l (cleared w) v start.board board request x o
-      → BoardsAlong l start.board (answer_of x o ∷ []) board
-  one_board x o c = (board, c.board, refl)
+      → (c : IsCarriedOut tells l (cleared w) v start.board board request x o)
+      → BoardsAlong tells l start.board (answer_of c.now x o ∷ []) board
+  one_board x o c = (board, c.began, c.board, refl)
 
   served : (x : Exchange) (last : Bool) → request.closes ≡ last
       → (last ≡ true → request.closes ≡ true)
-      → IsWritten l (cleared w) v start.board board request (sunk mid.written written mid.writes writes) x
-      → IsOneServed l start now w v x last
+      → IsWritten tells l (cleared w) v start.board board request
+      (sunk mid.written written mid.writes writes) x
+      → IsOneServed tells l start now w v x last
   served x last is closes s = record {
-    answer = answer_of x s.outcome;
+    answer = answer_of s.carried.now x s.outcome;
     exchange = refl;
     closes = is;
     behind = λ e. whole.behind (closes e);
     served = record {
       counts = since s.stays;
       passed = passed;
-      written = subst (λ t. Appends start.written written t) (one_reply x s.outcome)
+      written = subst (λ t. Appends start.written written t) (one_reply s.carried.now x s.outcome)
           (appends_join start.written mid.written written (said whole.asks)
           (reply_of request.closes x.millis s.outcome) whole.written s.written);
-      exchanged = exchanged_one l w v start.board board
+      exchanged = exchanged_one tells l w v start.board board
           (record { asks = whole.asks; request = request }) x s.outcome
           (carried x s.outcome s.carried);
       boards = one_board x s.outcome s.carried;
@@ -124,21 +131,23 @@ module _ (l : Layout) (start mid : Wire) (w v : Writer) (request : Request)
   }
     where
       carried : (x : Exchange) (o : Outcome)
-          → IsCarriedOut l (cleared w) v start.board board request x o
-          → IsCarriedOut l w v start.board board request x o
+          → IsCarriedOut tells l (cleared w) v start.board board request x o
+          → IsCarriedOut tells l w v start.board board request x o
       carried x o c = record {
+        now = c.now;
+        began = c.began;
         end = c.end;
         carried = c.carried;
         board = c.board;
         rest = c.rest;
         marks = c.marks;
         own = c.own;
-        at_once = c.at_once;
+        lasted = c.lasted;
       }
 
   -- a beginning was carried out
   left_off : IsLeftOff l (cleared w) v start.board board request (sunk mid.written written mid.writes writes)
-      → IsOver l start now w v [] (record_of v) end.OutOfMemory
+      → IsOver tells l start now w v [] (record_of v) end.OutOfMemory
   left_off s = record {
     counts = since (omega (arith, s.fails));
     ends = inr (
@@ -148,7 +157,7 @@ module _ (l : Layout) (start mid : Wire) (w v : Writer) (request : Request)
         passed = passed;
         written = appends_still start.written mid.written written (said whole.asks) whole.written s.written;
         mid = cleared w;
-        exchanged = exchanged_none l w;
+        exchanged = exchanged_none tells l w;
         same = s.begun.begun.1.same;
         grown = s.begun.begun.1.grown;
         accesses = s.begun.begun.1.accesses;
@@ -165,16 +174,17 @@ module _ (l : Layout) (start mid : Wire) (w v : Writer) (request : Request)
 
   -- the reply was written in part
   in_part : (x : Exchange)
-      → IsWrittenInPart l (cleared w) v start.board board request (sunk mid.written written mid.writes writes) x
-      → IsAnsweredInPart l start now w v x
+      → IsWrittenInPart tells l (cleared w) v start.board board request
+      (sunk mid.written written mid.writes writes) x
+      → IsAnsweredInPart tells l start now w v x
   in_part x s = record {
     counts = since s.stays;
     rose = rose_since start.writes mid.writes writes whole.counts.writes s.rose;
-    answer = answer_of x s.outcome;
+    answer = answer_of s.carried.now x s.outcome;
     exchange = refl;
     cut = record {
       before = [];
-      last = answer_of x s.outcome;
+      last = answer_of s.carried.now x s.outcome;
       answers_are = refl;
       passed = passed;
       part = said whole.asks ++ s.written.0;
@@ -184,15 +194,17 @@ module _ (l : Layout) (start mid : Wire) (w v : Writer) (request : Request)
       written = appends_join start.written mid.written written (said whole.asks) s.written.0
           whole.written s.written.3;
     };
-    exchanged = exchanged_one l w v start.board board
+    exchanged = exchanged_one tells l w v start.board board
         (record { asks = whole.asks; request = request }) x s.outcome (record {
+          now = s.carried.now;
+          began = s.carried.began;
           end = s.carried.end;
           carried = s.carried.carried;
           board = s.carried.board;
           rest = s.carried.rest;
           marks = s.carried.marks;
           own = s.carried.own;
-          at_once = s.carried.at_once;
+          lasted = s.carried.lasted;
         });
     boards = one_board x s.outcome s.carried;
     recorded = left_nothing x s.outcome s.carried;
@@ -200,24 +212,27 @@ module _ (l : Layout) (start mid : Wire) (w v : Writer) (request : Request)
 
   -- how the message was served
   pub one_end : (r : OneEnd)
-      → IsReplied l (cleared w) v start.board board request (sunk mid.written written mid.writes writes) r
-      → IsOneEnd l start now w v r
+      → IsReplied tells l (cleared w) v start.board board request
+      (sunk mid.written written mid.writes writes) r
+      → IsOneEnd tells l start now w v r
   one_end (Served x) s = served x false s.0 (λ e. absurd (cc)) s.1
   one_end (Last x) s = served x true s.0 (λ e. s.0) s.1
   one_end (Over e None) s =
-      subst (λ e. IsUnanswered l start now w v e) (sym s.0) (record { unclosed = λ x. cc; over = left_off s.1 })
+      subst (λ e. IsUnanswered tells l start now w v e) (sym s.0)
+      (record { unclosed = λ x. cc; over = left_off s.1 })
   one_end (Over e (Some x)) s = (s.0, in_part x s.1)
 
 -- the same, where names, layout and writer are what the site says of them
-pub one_end_of : (l m : Layout) (names : List NameShards) (start mid : Wire) (w u v : Writer)
-    (request : Request) (written : Option (List ℕ)) (writes : ℕ) (board : BoardState) (r : OneEnd)
+pub one_end_of : (tells : ℕ → Type 0) (l m : Layout) (names : List NameShards) (start mid : Wire)
+    (w u v : Writer) (request : Request) (written : Option (List ℕ)) (writes : ℕ)
+    (board : BoardState) (r : OneEnd)
     → names ≡ m.names → m ≡ l → u ≡ cleared w → IsWhole names start mid request
-    → IsReplied m u v start.board board request (sunk mid.written written mid.writes writes) r
-    → IsOneEnd l start (wire mid.held mid.left mid.reads written writes board) w v r
-one_end_of l m names start mid w u v request written writes board r named same clear whole s =
+    → IsReplied tells m u v start.board board request (sunk mid.written written mid.writes writes) r
+    → IsOneEnd tells l start (wire mid.held mid.left mid.reads written writes board) w v r
+one_end_of tells l m names start mid w u v request written writes board r named same clear whole s =
     let sunk' = sunk mid.written written mid.writes writes in
     let whole' = subst (λ n. IsWhole n start mid request)
     (named ∙ ap (λ (k : Layout). k.names) same) whole in
-    let s' = subst (λ k. IsReplied k (cleared w) v start.board board request sunk' r) same
-    (subst (λ u. IsReplied m u v start.board board request sunk' r) clear s) in
-    one_end l start mid w v request whole' written writes board r s'
+    let s' = subst (λ k. IsReplied tells k (cleared w) v start.board board request sunk' r) same
+    (subst (λ u. IsReplied tells m u v start.board board request sunk' r) clear s) in
+    one_end tells l start mid w v request whole' written writes board r s'

@@ -15,28 +15,29 @@ use Rattle.stream_handler.specs.declared.exchange.Exchange.{Exchange}
 use Rattle.stream_handler.proofs.ServeLemmas.{sound_still}
 use Rattle.stream_handler.proofs.SoundLemmas.{sound_counted}
 
-module _ (l : Layout) (old new : Wire) (w v : Writer) (answers : List Answer) (c : ℕ) where
+module _ (tells : ℕ → Type 0) (l : Layout) (old new : Wire) (w v : Writer) (answers : List Answer)
+    (c : ℕ) where
   -- at this cell the writer appended just what these own marks say
   abbrev Counted : List OwnMark → Type 0
   Counted own = IsCounted w.me v.seen (counts w.seen) (counts v.seen) own c
 
   -- nothing was begun behind the exchanges
-  settled_counted : (rest : Record) → Exchanged l w v answers → rest.own ≡ []
+  settled_counted : (rest : Record) → Exchanged tells l w v answers → rest.own ≡ []
       → Counted (owns_of (exchanges_of answers) ++ rest.own)
   settled_counted rest x none =
       subst Counted
       (sym (append-nil (owns_of (exchanges_of answers)))
       ∙ ap (λ (own : List OwnMark). owns_of (exchanges_of answers) ++ own) (sym none))
-      (sound_counted l w.me v.seen (counts w.seen) (counts v.seen) answers c x.sound)
+      (sound_counted tells l w.me v.seen (counts w.seen) (counts v.seen) answers c x.sound)
 
   -- a request was begun behind them
-  begun_counted : (rest : Record) → IsBegun l old new w v answers rest
+  begun_counted : (rest : Record) → IsBegun tells l old new w v answers rest
       → Counted (owns_of (exchanges_of answers) ++ rest.own)
   begun_counted rest b =
       let mid = counts b.mid.seen in
       let first : IsCounted w.me v.seen (counts w.seen) mid (owns_of (exchanges_of answers)) c =
-      sound_counted l w.me v.seen (counts w.seen) mid answers c
-      (sound_still l w.me b.mid.seen v.seen (counts w.seen) mid answers b.grown
+      sound_counted tells l w.me v.seen (counts w.seen) mid answers c
+      (sound_still tells l w.me b.mid.seen v.seen (counts w.seen) mid answers b.grown
       b.exchanged.sound) in
       let then : IsCounted w.me v.seen mid (counts v.seen) rest.own c =
       subst (λ (own : List OwnMark). IsCounted w.me v.seen mid (counts v.seen) own c) (sym b.own)
@@ -46,17 +47,18 @@ module _ (l : Layout) (old new : Wire) (w v : Writer) (answers : List Answer) (c
       rest.own c first then
 
   -- however the connection ended
-  ends_counted : (rest : Record) (e : End) → EndsBy l old new w v answers rest e
+  ends_counted : (rest : Record) (e : End) → EndsBy tells l old new w v answers rest e
       → Counted (owns_of (exchanges_of answers) ++ rest.own)
   ends_counted rest e (inl s) =
       settled_counted rest s.exchanged (ap (λ (r : Record). r.own) s.recorded)
   ends_counted rest e (inr b) = begun_counted rest b.1
 
 -- what the writer appended is just what the own marks of the exchanges and of the rest say
-pub session_records : {l : Layout} {old new : Wire} {w v : Writer} {exchanges : List Exchange}
-    {rest : Record} {e : End} → IsSession l old new w v exchanges rest e
+pub session_records : {tells : ℕ → Type 0} {l : Layout} {old new : Wire} {w v : Writer}
+    {exchanges : List Exchange} {rest : Record} {e : End}
+    → IsSession tells l old new w v exchanges rest e
     → AreRecorded w.me v.seen (counts w.seen) (counts v.seen) (owns_of exchanges ++ rest.own)
-session_records {l} {old} {new} {w} {v} {exchanges} {rest} {e} s =
+session_records {tells} {l} {old} {new} {w} {v} {exchanges} {rest} {e} s =
     subst (λ (xs : List Exchange). AreRecorded w.me v.seen (counts w.seen) (counts v.seen)
     (owns_of xs ++ rest.own)) (sym s.exchanges_are)
-    (λ c. (ends_counted l old new w v s.answers c rest e s.over.ends).counted)
+    (λ c. (ends_counted tells l old new w v s.answers c rest e s.over.ends).counted)

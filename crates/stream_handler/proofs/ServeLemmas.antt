@@ -35,34 +35,40 @@ use Rattle.stream_handler.specs.Refusals.{refusal_reply}
 use Rattle.stream_handler.proofs.WireLemmas.{appends_join, came_join, counts_join, rose_since}
 
 -- exchanges stay sound over all that is seen later
-pub sound_still : (l : Layout) (me : ℕ) (s t : List Log) (had end : List ℕ) (xs : List Answer) → Grows s t
-    → AreSound l me s had xs end → AreSound l me t had xs end
-sound_still l me s t had end [] g i = i
-sound_still l me s t had end (a ∷ xs) g i =
-    let one : IsSound me t had (request_course l a.outcome a.message.request) a.exchange a.outcome
-    i.0 =
-    sound_of l me t had a.message.request a.exchange a.outcome i.0 i.1.accesses i.1.marks i.1.own
-    i.1.at_once
+pub sound_still : (tells : ℕ → Type 0) (l : Layout) (me : ℕ) (s t : List Log) (had end : List ℕ)
+    (xs : List Answer) → Grows s t
+    → AreSound tells l me s had xs end → AreSound tells l me t had xs end
+sound_still tells l me s t had end [] g i = i
+sound_still tells l me s t had end (a ∷ xs) g i =
+    let one : IsSound tells a.now me t had (request_course l a.outcome a.message.request)
+    a.exchange a.outcome i.0 =
+    sound_of tells a.now l me t had a.message.request a.exchange a.outcome i.0 i.1.accesses
+    i.1.marks i.1.own i.1.began i.1.lasted
     (follows_still me s t had (request_course l a.outcome a.message.request) i.1.accesses
     (ends a.outcome) i.0 g i.1.followed) in
-    (i.0, one, sound_still l me s t i.0 end xs g i.2)
+    (i.0, one, sound_still tells l me s t i.0 end xs g i.2)
 
 -- some and then others
-sound_join : (l : Layout) (me : ℕ) (s : List Log) (had mid end : List ℕ) (xs ys : List Answer)
-    → AreSound l me s had xs mid → AreSound l me s mid ys end → AreSound l me s had (xs ++ ys) end
-sound_join l me s had mid end [] ys i j = subst (λ h. AreSound l me s h ys end) i j
-sound_join l me s had mid end (a ∷ xs) ys i j =
-    (i.0, i.1, sound_join l me s i.0 mid end xs ys i.2 j)
+sound_join : (tells : ℕ → Type 0) (l : Layout) (me : ℕ) (s : List Log) (had mid end : List ℕ)
+    (xs ys : List Answer)
+    → AreSound tells l me s had xs mid → AreSound tells l me s mid ys end
+    → AreSound tells l me s had (xs ++ ys) end
+sound_join tells l me s had mid end [] ys i j = subst (λ h. AreSound tells l me s h ys end) i j
+sound_join tells l me s had mid end (a ∷ xs) ys i j =
+    (i.0, i.1, sound_join tells l me s i.0 mid end xs ys i.2 j)
 
 -- what a board said to some and then to others
-pub boards_join : (l : Layout) (a b c : BoardState) (xs ys : List Answer) → BoardsAlong l a xs b
-    → BoardsAlong l b ys c → BoardsAlong l a (xs ++ ys) c
-boards_join l a b c [] ys p q = subst (λ x. BoardsAlong l x ys c) p q
-boards_join l a b c (x ∷ xs) ys p q = (p.0, p.1, boards_join l p.0 b c xs ys p.2 q)
+pub boards_join : (tells : ℕ → Type 0) (l : Layout) (a b c : BoardState) (xs ys : List Answer)
+    → BoardsAlong tells l a xs b
+    → BoardsAlong tells l b ys c → BoardsAlong tells l a (xs ++ ys) c
+boards_join tells l a b c [] ys p q = subst (λ x. BoardsAlong tells l x ys c) p q
+boards_join tells l a b c (x ∷ xs) ys p q =
+    (p.0, p.1, p.2, boards_join tells l p.0 b c xs ys p.3 q)
 
 -- none
-pub exchanged_none : (l : Layout) (w : Writer) → Exchanged l w (cleared w) []
-exchanged_none l w = record {
+pub exchanged_none : (tells : ℕ → Type 0) (l : Layout) (w : Writer)
+    → Exchanged tells l w (cleared w) []
+exchanged_none tells l w = record {
   same = refl;
   grown = grows_same w.seen;
   sound = refl;
@@ -70,25 +76,29 @@ exchanged_none l w = record {
 }
 
 -- one
-pub exchanged_one : (l : Layout) (w v : Writer) (before after : BoardState) (message : Message)
-    (x : Exchange) (o : Outcome) → IsCarriedOut l w v before after message.request x o
-    → Exchanged l w v (record { message = message; exchange = x; outcome = o } ∷ [])
-exchanged_one l w v before after message x o c = subst P (sym c.rest) now
+pub exchanged_one : (tells : ℕ → Type 0) (l : Layout) (w v : Writer) (before after : BoardState)
+    (message : Message) (x : Exchange) (o : Outcome)
+    → (c : IsCarriedOut tells l w v before after message.request x o)
+    → Exchanged tells l w v
+    (record { message = message; now = c.now; exchange = x; outcome = o } ∷ [])
+exchanged_one tells l w v before after message x o c = subst P (sym c.rest) done
   where
     P : Writer → Type 0
-    P = λ v. Exchanged l w v (record { message = message; exchange = x; outcome = o } ∷ [])
+    P = λ v. Exchanged tells l w v
+        (record { message = message; now = c.now; exchange = x; outcome = o } ∷ [])
 
     marks : x.marks ≡ marks_of c.carried.accesses
     marks = c.marks ∙ c.carried.marks
 
-    now : P (cleared c.end)
-    now = record {
+    done : P (cleared c.end)
+    done = record {
       same = c.carried.same;
       grown = c.carried.grown;
       sound = (
         counts c.end.seen,
-        sound_of l w.me c.end.seen (counts w.seen) message.request x o (counts c.end.seen)
-            c.carried.accesses marks (c.own ∙ c.carried.own) c.at_once c.carried.followed,
+        sound_of tells c.now l w.me c.end.seen (counts w.seen) message.request x o
+            (counts c.end.seen) c.carried.accesses marks (c.own ∙ c.carried.own) c.began c.lasted
+            c.carried.followed,
         refl,
       );
       looked = λ cell.
@@ -97,14 +107,15 @@ exchanged_one l w v before after message x o c = subst P (sym c.rest) now
     }
 
 -- some and then others
-pub exchanged_join : (l : Layout) (u v w : Writer) (xs ys : List Answer) → Exchanged l u v xs
-    → Exchanged l v w ys → Exchanged l u w (xs ++ ys)
-exchanged_join l u v w xs ys p q = record {
+pub exchanged_join : (tells : ℕ → Type 0) (l : Layout) (u v w : Writer) (xs ys : List Answer)
+    → Exchanged tells l u v xs
+    → Exchanged tells l v w ys → Exchanged tells l u w (xs ++ ys)
+exchanged_join tells l u v w xs ys p q = record {
   same = q.same ∙ p.same;
   grown = grows_join u.seen v.seen w.seen p.grown q.grown;
-  sound = sound_join l u.me w.seen (counts u.seen) (counts v.seen) (counts w.seen) xs ys
-      (sound_still l u.me v.seen w.seen (counts u.seen) (counts v.seen) xs q.grown p.sound)
-      (subst (λ me. AreSound l me w.seen (counts v.seen) ys (counts w.seen)) p.same q.sound);
+  sound = sound_join tells l u.me w.seen (counts u.seen) (counts v.seen) (counts w.seen) xs ys
+      (sound_still tells l u.me v.seen w.seen (counts u.seen) (counts v.seen) xs q.grown p.sound)
+      (subst (λ me. AreSound tells l me w.seen (counts v.seen) ys (counts w.seen)) p.same q.sound);
   looked = λ cell.
       let both : looks_at cell (looks_of (xs ++ ys)) ≡ looks_at cell (looks_of xs) + looks_at cell (looks_of ys) =
       ap (looks_at cell) (flat_map-append (λ (a : Answer). a.exchange.marks) xs ys)
@@ -218,37 +229,40 @@ module _ (names : List NameShards) (old mid new : Wire) (xs ys : List Answer)
   wire_join end.OutOfMemory c other q = lost_join q
 
 -- some were served and then others
-pub served_join : (l : Layout) (old mid new : Wire) (u v w : Writer) (xs ys : List Answer)
-    → IsServed l old mid u v xs → IsServed l mid new v w ys → IsServed l old new u w (xs ++ ys)
-served_join l old mid new u v w xs ys p q = record {
+pub served_join : (tells : ℕ → Type 0) (l : Layout) (old mid new : Wire) (u v w : Writer)
+    (xs ys : List Answer)
+    → IsServed tells l old mid u v xs → IsServed tells l mid new v w ys
+    → IsServed tells l old new u w (xs ++ ys)
+served_join tells l old mid new u v w xs ys p q = record {
   counts = counts_join old mid new p.counts q.counts;
   passed = subst (λ ms. Passed l.names old new ms false) (sym (messages_join xs ys))
       (passed_join l.names old mid new xs ys p.passed p.written (messages_of ys) false q.passed);
   written = subst (λ t. Appends old.written new.written t) (sym (replies_join xs ys))
       (appends_join old.written mid.written new.written (replies_of xs) (replies_of ys) p.written q.written);
-  exchanged = exchanged_join l u v w xs ys p.exchanged q.exchanged;
-  boards = boards_join l old.board mid.board new.board xs ys p.boards q.boards;
+  exchanged = exchanged_join tells l u v w xs ys p.exchanged q.exchanged;
+  boards = boards_join tells l old.board mid.board new.board xs ys p.boards q.boards;
   recorded = q.recorded;
 }
 
 -- some were served, and then it was over
-pub over_join : (l : Layout) (old mid new : Wire) (u v w : Writer) (xs ys : List Answer) (rest : Record)
-    (e : End) → IsServed l old mid u v xs → e ≢ end.Closed → IsOver l mid new v w ys rest e
-    → IsOver l old new u w (xs ++ ys) rest e
-over_join l old mid new u v w xs ys rest e p other q = record {
+pub over_join : (tells : ℕ → Type 0) (l : Layout) (old mid new : Wire) (u v w : Writer)
+    (xs ys : List Answer) (rest : Record) (e : End)
+    → IsServed tells l old mid u v xs → e ≢ end.Closed → IsOver tells l mid new v w ys rest e
+    → IsOver tells l old new u w (xs ++ ys) rest e
+over_join tells l old mid new u v w xs ys rest e p other q = record {
   counts = counts_join old mid new p.counts q.counts;
   ends = elim q.ends [
     | inl s ↦ inl (record {
       ends = wire_join l.names old mid new xs ys p.passed p.written e p.counts other s.ends;
-      exchanged = exchanged_join l u v w xs ys p.exchanged s.exchanged;
-      boards = boards_join l old.board mid.board new.board xs ys p.boards s.boards;
+      exchanged = exchanged_join tells l u v w xs ys p.exchanged s.exchanged;
+      boards = boards_join tells l old.board mid.board new.board xs ys p.boards s.boards;
       recorded = s.recorded;
     })
     | inr b ↦ inr (b.0, begun b.1)
   ];
 }
   where
-    begun : IsBegun l mid new v w ys rest → IsBegun l old new u w (xs ++ ys) rest
+    begun : IsBegun tells l mid new v w ys rest → IsBegun tells l old new u w (xs ++ ys) rest
     begun b = record {
       message = b.message;
       passed = subst (λ ms. Passed l.names old new ms false)
@@ -257,7 +271,7 @@ over_join l old mid new u v w xs ys rest e p other q = record {
           (passed_join l.names old mid new xs ys p.passed p.written (messages_of ys ++ b.message ∷ []) false b.passed);
       written = written_more l.names old mid new xs ys p.passed p.written ys (said b.message.asks) b.written;
       mid = b.mid;
-      exchanged = exchanged_join l u v b.mid xs ys p.exchanged b.exchanged;
+      exchanged = exchanged_join tells l u v b.mid xs ys p.exchanged b.exchanged;
       same = b.same;
       grown = b.grown;
       accesses = b.accesses;
@@ -269,5 +283,5 @@ over_join l old mid new u v w xs ys rest e p other q = record {
       followed = subst (λ me. Follows me w.seen (counts b.mid.seen)
           (request_course l b.told b.message.request) b.accesses b.left (counts w.seen))
           p.exchanged.same b.followed;
-      boards = boards_join l old.board mid.board new.board xs ys p.boards b.boards;
+      boards = boards_join tells l old.board mid.board new.board xs ys p.boards b.boards;
     }

@@ -1,5 +1,5 @@
 -- What makes an exchange sound, and what sound exchanges tell of the writer's own steps.
-use Rattle.std.proofs.Common.{◌≡◌, ℕ, Bool, List, [], ◌∷◌, length, sym, ◌∙◌, subst}
+use Rattle.std.proofs.Common.{◌≡◌, ℕ, Bool, List, [], ◌∷◌, length, ap, sym, ◌∙◌, subst}
 use Rattle.std.specs.Prelude.{◌||◌, Option, Some, None, Result, Ok, Err, IfErr, codes, nat_lt}
 use Rattle.tuple_values.specs.Document.{ByteList}
 use Rattle.tuple_values.specs.declared.memory.Memory.{Memory}
@@ -25,9 +25,10 @@ use Rattle.form_request.specs.declared.request.Request.{Request}
 use Rattle.json_text.specs.Updates.{update_in}
 use Rattle.expr_types.specs.ExprTree.{ExprTree, operator_in}
 use Rattle.topic_book.specs.Fitness.{shards_of}
+use Rattle.server_edge.specs.Clocks.{Took}
 use Rattle.stream_handler.specs.Asks.{action_read, ask_of, daemon_of}
 use Rattle.stream_handler.specs.Boards.{Ask, BoardState, Says}
-use Rattle.stream_handler.specs.Exchanges.{Answer, AreSound, IsAnswered, IsBroken, IsSound, exchanges_of, owns_of}
+use Rattle.stream_handler.specs.Exchanges.{Answer, AreSound, IsAnswered, IsBroken, IsSound, IsTimed, exchanges_of, owns_of}
 use Rattle.expr_check.specs.declared.roots.Roots.TheVariants.{All}
 use Rattle.expr_text.specs.Reading.{expression_of}
 use Rattle.root_runs.specs.Runs.{list_course, root_course}
@@ -119,12 +120,14 @@ requests_first =
     record { request = request_first; plain = plain_first; expression = expression_first }
 
 -- accesses that follow the whole course of a request make its exchange sound
-pub sound_of : (l : Layout) (me : ℕ) (seen : List Log) (had : List ℕ) (r : Request) (x : Exchange)
-    (o : Outcome) (end : List ℕ) (accesses : List Access)
+pub sound_of : (tells : ℕ → Type 0) (now : ℕ) (l : Layout) (me : ℕ) (seen : List Log)
+    (had : List ℕ) (r : Request) (x : Exchange) (o : Outcome) (end : List ℕ)
+    (accesses : List Access)
     → x.marks ≡ marks_of accesses → x.own ≡ own_of accesses
-    → x.millis ≡ 0 → Follows me seen had (request_course l o r) accesses (ends o) end
-    → IsSound me seen had (request_course l o r) x o end
-sound_of l me seen had r x o end accesses marks own now f =
+    → tells now → Took tells now x.millis
+    → Follows me seen had (request_course l o r) accesses (ends o) end
+    → IsSound tells now me seen had (request_course l o r) x o end
+sound_of tells now l me seen had r x o end accesses marks own began lasted f =
     let p = request_course l o r in
     let looked : AreLookedAt (marks_of accesses) (own_of accesses) =
     (follows_looked me seen had p accesses (ends o) end (request_first l o r) f).1 in
@@ -137,49 +140,54 @@ sound_of l me seen had r x o end accesses marks own now f =
           (follows_recorded me seen had p accesses (ends o) end f);
       looked_at = subst (λ (m : List CutMark). AreLookedAt m x.own) (sym marks)
           (subst (AreLookedAt (marks_of accesses)) (sym own) looked);
-      at_once = now;
+      began = began;
+      lasted = lasted;
     }
 
 -- what the writer appended in sound exchanges is just their own steps
-pub sound_counted : (l : Layout) (me : ℕ) (seen : List Log) (had end : List ℕ)
-    (answers : List Answer) (c : ℕ) → AreSound l me seen had answers end
+pub sound_counted : (tells : ℕ → Type 0) (l : Layout) (me : ℕ) (seen : List Log) (had end : List ℕ)
+    (answers : List Answer) (c : ℕ) → AreSound tells l me seen had answers end
     → IsCounted me seen had end (owns_of (exchanges_of answers)) c
-sound_counted l me seen had end [] c i =
+sound_counted tells l me seen had end [] c i =
     subst (λ (e : List ℕ). IsCounted me seen had e [] c) (sym i) (counted_none me seen had c)
-sound_counted l me seen had end (a ∷ answers) c i =
+sound_counted tells l me seen had end (a ∷ answers) c i =
     let p = request_course l a.outcome a.message.request in
     let one : IsCounted me seen had i.0 a.exchange.own c =
     subst (λ (own : List OwnMark). IsCounted me seen had i.0 own c) (sym i.1.own)
     (follows_counted me seen had p i.1.accesses (ends a.outcome) i.0 c i.1.followed) in
     counted_join me seen had i.0 end a.exchange.own (owns_of (exchanges_of answers)) c one
-    (sound_counted l me seen i.0 end answers c i.2)
+    (sound_counted tells l me seen i.0 end answers c i.2)
 
 -- a request that was carried out with a record that began empty is answered, and its exchange is
 -- sound
-pub answered_of : {l m : Layout} {w u end new : Writer} {before after : BoardState} {r : Request}
-    {a : Answered} {o : Outcome}
-    → u ≡ cleared w → m ≡ l → Answers u end (request_course m o r) o
-    → Says (ask_of m.names r) before after o → new ≡ cleared end
-    → a.exchange.marks ≡ end.marks → a.exchange.own ≡ end.own
-    → a.reply ≡ reply_of r.closes a.exchange.millis o → a.exchange.millis ≡ 0
-    → IsAnswered l w new before after r a
-answered_of {l} {m} {w} {u} {end} {new} {before} {after} {r} {a} {o} fresh same went says rest
-    marks own reply now =
+pub answered_of : (tells : ℕ → Type 0) {l m : Layout} {w u end new : Writer}
+    {before after : BoardState} {r : Request} {a : Answered} (bytes : ByteList) (millis : ℕ)
+    → u ≡ cleared w → m ≡ l → (t : IsTimed tells m u end before after r bytes millis)
+    → new ≡ cleared end → a.exchange.marks ≡ end.marks → a.exchange.own ≡ end.own
+    → a.reply ≡ bytes → a.exchange.millis ≡ millis
+    → IsAnswered tells l w new before after r a
+answered_of tells {l} {m} {w} {u} {end} {new} {before} {after} {r} {a} bytes millis fresh same t
+    rest marks own reply time =
+    let o = t.outcome in
+    let lasted : Took tells t.now a.exchange.millis =
+    subst (Took tells t.now) (sym time) t.lasted in
     let k : Answers (cleared w) end (request_course l o r) o =
     subst (λ (x : Layout). Answers (cleared w) end (request_course x o r) o) same
-    (subst (λ (x : Writer). Answers x end (request_course m o r) o) fresh went) in
+    (subst (λ (x : Writer). Answers x end (request_course m o r) o) fresh t.carried) in
     record {
       outcome = o;
+      now = t.now;
+      began = t.began;
       end = end;
       carried = k;
-      board = subst (λ (x : Layout). Says (ask_of x.names r) before after o) same says;
+      board = subst (λ (x : Layout). Says t.now (ask_of x.names r) before after o) same t.board;
       rest = rest;
       marks = marks;
       own = own;
-      reply = reply;
-      at_once = now;
-      sound = sound_of l w.me end.seen (counts w.seen) r a.exchange o (counts end.seen) k.accesses
-          (marks ∙ k.marks) (own ∙ k.own) now k.followed;
+      reply = reply ∙ t.reply ∙ ap (λ (n : ℕ). reply_of r.closes n o) (sym time);
+      lasted = lasted;
+      sound = sound_of tells t.now l w.me end.seen (counts w.seen) r a.exchange o (counts end.seen)
+          k.accesses (marks ∙ k.marks) (own ∙ k.own) t.began lasted k.followed;
     }
 
 -- a request that stopped for want of memory is broken

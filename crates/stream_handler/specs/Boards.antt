@@ -1,5 +1,5 @@
--- What is asked of a board of daemons, and what the board says to it (own; Solr Reference Guide,
--- "Stream Decorator Reference", daemon). All times are 0.
+-- What is asked of a board of daemons at a time, in milliseconds, and what the board says to it
+-- (own; Solr Reference Guide, "Stream Decorator Reference", daemon).
 use Rattle.std.specs.Prelude.{ℕ, ◌≡◌, ◌++◌, Bool, List, [], ◌∷◌, Option, None, Result, Ok, Err, codes}
 use Rattle.tuple_values.specs.Document.{ByteList, Doc, text}
 use Rattle.tuple_values.specs.declared.memory.Memory.{Memory}
@@ -55,11 +55,11 @@ abbrev pub change_told : Change → ByteList → Result (Unit {0}) BoardFault �
 change_told change id (Ok u) = op_done (change_word change) id
 change_told change id (Err fault) = exception (codes "UnknownDaemon " ++ id)
 
--- what a change makes of a board that tells what it holds
-abbrev pub Makes : Change → ByteList → Result (Unit {0}) BoardFault → Shown → Shown → Type 0
-Makes Stop id answer = Changes id stopped answer
-Makes Start id answer = Changes id (resumed 0) answer
-Makes Kill id answer = Kills id answer
+-- what a change makes at this time of a board that tells what it holds
+abbrev pub Makes : ℕ → Change → ByteList → Result (Unit {0}) BoardFault → Shown → Shown → Type 0
+Makes now Stop id answer = Changes id stopped answer
+Makes now Start id answer = Changes id (resumed now) answer
+Makes now Kill id answer = Kills id answer
 
 -- the counts after an answer to it
 abbrev pub after_change : Change → Result (Unit {0}) BoardFault → Answers → Answers
@@ -67,12 +67,12 @@ after_change Stop answer = after_stop answer
 after_change Start answer = after_resume answer
 after_change Kill answer = after_kill answer
 
--- the board made the change or refused it, and that is the outcome
-pub record IsChanged (change : Change) (id : ByteList) (old new : BoardState) (o : Outcome)
-    : Type 0 where
+-- the board made the change at this time or refused it, and that is the outcome
+pub record IsChanged (now : ℕ) (change : Change) (id : ByteList) (old new : BoardState)
+    (o : Outcome) : Type 0 where
   pub answer : Result (Unit {0}) BoardFault
   pub outcome : o ≡ change_told change id answer
-  pub told : WhereTold old.shown new.shown (Makes change id answer)
+  pub told : WhereTold old.shown new.shown (Makes now change id answer)
   pub counted : new.answers ≡ after_change change answer old.answers
 
 -- the outcome is the answer to a start, which isn't want of memory
@@ -83,15 +83,16 @@ IsStartTold id (Err UnknownDaemon) o = ⊥
 IsStartTold id (Err BoardFull) o = o ≡ exception (codes "BoardFull")
 IsStartTold id (Err OutOfMemory) o = ⊥
 
--- an expression that is this tree was put on the board or refused, and that is the outcome
-pub record IsStarted (id : ByteList) (t : ExprTree) (interval : ℕ) (terminate : Bool)
+-- an expression that is this tree was put on the board at this time or refused, and that is the
+-- outcome
+pub record IsStarted (now : ℕ) (id : ByteList) (t : ExprTree) (interval : ℕ) (terminate : Bool)
     (old new : BoardState) (o : Outcome) : Type 0 where
   pub expr : Expr
   pub tree : expr_tree expr ≡ t
   pub answer : Result (Unit {0}) BoardFault
   pub outcome : IsStartTold id answer o
   pub told : WhereTold old.shown new.shown
-      (λ b c. Starts id (fresh b expr interval terminate 0) answer b c)
+      (λ b c. Starts id (fresh b expr interval terminate now) answer b c)
   pub counted : new.answers ≡ after_start answer old.answers
 
 -- the outcome is the list of the board, which is as it was
@@ -101,17 +102,23 @@ pub record IsListed (old new : BoardState) (o : Outcome) : Type 0 where
   pub told : WhereTold old.shown new.shown (Lists {E = Memory} (Ok docs))
   pub counted : new.answers ≡ old.answers
 
--- what a board says to what it is asked, and what it is then
-abbrev pub Says : Ask → BoardState → BoardState → Outcome → Type 0
-Says nothing old new o = new ≡ old
-Says lists old new o = IsListed old new o
-Says (stops id) old new o = IsChanged Stop id old new o
-Says (resumes id) old new o = IsChanged Start id old new o
-Says (kills id) old new o = IsChanged Kill id old new o
-Says (starts id t interval terminate) old new o = IsStarted id t interval terminate old new o
+-- the board was listed, unless memory was wanting: then too it is as it was
+abbrev pub IsListing : BoardState → BoardState → Result Outcome Memory → Type 0
+IsListing old new (Ok o) = IsListed old new o
+IsListing old new (Err memory) = new ≡ old
 
--- the board was asked, and the outcome is what it said, unless memory was wanting: then it is as it
--- was
-abbrev pub IsAsked : Ask → BoardState → BoardState → Result Outcome Memory → Type 0
-IsAsked ask old new (Ok o) = Says ask old new o
-IsAsked ask old new (Err memory) = new ≡ old
+-- what a board says to what it is asked at this time, and what it is then
+abbrev pub Says : ℕ → Ask → BoardState → BoardState → Outcome → Type 0
+Says now nothing old new o = new ≡ old
+Says now lists old new o = IsListed old new o
+Says now (stops id) old new o = IsChanged now Stop id old new o
+Says now (resumes id) old new o = IsChanged now Start id old new o
+Says now (kills id) old new o = IsChanged now Kill id old new o
+Says now (starts id t interval terminate) old new o =
+    IsStarted now id t interval terminate old new o
+
+-- the board was asked at this time, and the outcome is what it said, unless memory was wanting:
+-- then it is as it was
+abbrev pub IsAsked : ℕ → Ask → BoardState → BoardState → Result Outcome Memory → Type 0
+IsAsked now ask old new (Ok o) = Says now ask old new o
+IsAsked now ask old new (Err memory) = new ≡ old

@@ -1,5 +1,5 @@
 -- What a question may be answered, all of which is made before the board is asked (own).
-use Rattle.std.specs.Prelude.{◌≡◌, ◌++◌, Bool, Result, Ok, Err, codes}
+use Rattle.std.specs.Prelude.{ℕ, ◌≡◌, ◌++◌, Bool, Result, Ok, Err, codes}
 use Rattle.tuple_values.specs.Document.{ByteList}
 use Rattle.tuple_values.specs.declared.memory.Memory.{Memory}
 use Rattle.expr_check.specs.declared.checked.Checked.{Checked}
@@ -45,34 +45,34 @@ IsPrepared question.List b p = (o : Outcome) × IsListed b b o × (p ≡ prepare
 IsPrepared (question.Change what id) b p = p ≡ prepared_change what id
 IsPrepared (question.Start d checked) b p = p ≡ prepared_start d checked
 
--- the responses that tell a start
-abbrev pub start_replies : Bool → StartTold Outcome → StartTold ByteList
-start_replies closes told =
+-- the responses that tell a start, after so many milliseconds
+abbrev pub start_replies : Bool → ℕ → StartTold Outcome → StartTold ByteList
+start_replies closes millis told =
     record {
-      started = reply_of closes 0 told.started;
-      taken = reply_of closes 0 told.taken;
-      full = reply_of closes 0 told.full;
+      started = reply_of closes millis told.started;
+      taken = reply_of closes millis told.taken;
+      full = reply_of closes millis told.full;
     }
 
--- the response to each answer
-abbrev pub replied : Bool → Prepared Outcome → Prepared ByteList
-replied closes (prepared.Told o) = prepared.Told (reply_of closes 0 o)
-replied closes (prepared.Change what id made unknown) =
-    prepared.Change what id (reply_of closes 0 made) (reply_of closes 0 unknown)
-replied closes (prepared.Start d checked told) =
-    prepared.Start d checked (start_replies closes told)
+-- the response to each answer, after so many milliseconds
+abbrev pub replied : Bool → ℕ → Prepared Outcome → Prepared ByteList
+replied closes millis (prepared.Told o) = prepared.Told (reply_of closes millis o)
+replied closes millis (prepared.Change what id made unknown) =
+    prepared.Change what id (reply_of closes millis made) (reply_of closes millis unknown)
+replied closes millis (prepared.Start d checked told) =
+    prepared.Start d checked (start_replies closes millis told)
 
 -- what is told of the answer to a change
 abbrev pub picked : {A : Type 0} → A → A → Result (Unit {0}) BoardFault → A
 picked made unknown (Ok u) = made
 picked made unknown (Err fault) = unknown
 
--- the board was asked for a change, and this was picked by its answer
-pub record IsChangeChosen {A : Type 0} (what : Change) (id : ByteList) (made unknown : A)
+-- the board was asked for a change at this time, and this was picked by its answer
+pub record IsChangeChosen {A : Type 0} (now : ℕ) (what : Change) (id : ByteList) (made unknown : A)
     (before after : BoardState) (x : A) : Type 0 where
   pub answer : Result (Unit {0}) BoardFault
   pub picks : x ≡ picked made unknown answer
-  pub told : WhereTold before.shown after.shown (Makes what id answer)
+  pub told : WhereTold before.shown after.shown (Makes now what id answer)
   pub counted : after.answers ≡ after_change what answer before.answers
 
 -- what is told of the answer to a start, which isn't want of memory
@@ -97,35 +97,38 @@ abbrev pub IsStartPicked : {A : Type 0} → StartTold A → Result (Unit {0}) Bo
 IsStartPicked told answer (Ok x) = Picks told answer x
 IsStartPicked told answer (Err memory) = IsUntold answer
 
--- the board was asked for a start, and this was picked by its answer
-pub record IsStartChosen {A : Type 0} (d : NewDaemon) (checked : Checked) (told : StartTold A)
-    (before after : BoardState) (x : A) : Type 0 where
+-- the board was asked for a start at this time, and this was picked by its answer
+pub record IsStartChosen {A : Type 0} (now : ℕ) (d : NewDaemon) (checked : Checked)
+    (told : StartTold A) (before after : BoardState) (x : A) : Type 0 where
   pub answer : Result (Unit {0}) BoardFault
   pub picks : Picks told answer x
   pub said : WhereTold before.shown after.shown
-      (λ b c. Starts d.id (fresh b checked d.interval d.terminate 0) answer b c)
+      (λ b c. Starts d.id (fresh b checked d.interval d.terminate now) answer b c)
   pub counted : after.answers ≡ after_start answer before.answers
 
 -- the same, unless memory was wanting: then the board is as it was
-abbrev pub IsStartAsked : {A : Type 0} → NewDaemon → Checked → StartTold A → BoardState → BoardState
-    → Result A Memory → Type 0
-IsStartAsked d checked told before after (Ok x) = IsStartChosen d checked told before after x
-IsStartAsked d checked told before after (Err memory) = after ≡ before
+abbrev pub IsStartAsked : {A : Type 0} → ℕ → NewDaemon → Checked → StartTold A → BoardState
+    → BoardState → Result A Memory → Type 0
+IsStartAsked now d checked told before after (Ok x) =
+    IsStartChosen now d checked told before after x
+IsStartAsked now d checked told before after (Err memory) = after ≡ before
 
--- the board was asked, and this was picked by its answer
-abbrev pub Chooses : {A : Type 0} → Prepared A → BoardState → BoardState → A → Type 0
-Chooses (prepared.Told a) before after x = (after ≡ before) × (x ≡ a)
-Chooses (prepared.Change what id made unknown) before after x =
-    IsChangeChosen what id made unknown before after x
-Chooses (prepared.Start d checked told) before after x =
-    IsStartChosen d checked told before after x
+-- the board was asked at this time, and this was picked by its answer
+abbrev pub Chooses : {A : Type 0} → ℕ → Prepared A → BoardState → BoardState → A → Type 0
+Chooses now (prepared.Told a) before after x = (after ≡ before) × (x ≡ a)
+Chooses now (prepared.Change what id made unknown) before after x =
+    IsChangeChosen now what id made unknown before after x
+Chooses now (prepared.Start d checked told) before after x =
+    IsStartChosen now d checked told before after x
 
 -- the same, unless memory was wanting: then the board is as it was
-abbrev pub IsChosen : {A : Type 0} → Prepared A → BoardState → BoardState → Result A Memory → Type 0
-IsChosen p before after (Ok x) = Chooses p before after x
-IsChosen p before after (Err memory) = after ≡ before
+abbrev pub IsChosen : {A : Type 0} → ℕ → Prepared A → BoardState → BoardState → Result A Memory
+    → Type 0
+IsChosen now p before after (Ok x) = Chooses now p before after x
+IsChosen now p before after (Err memory) = after ≡ before
 
--- the board was asked a question and told this, unless memory was wanting: then it is as it was
-abbrev pub IsAnswerTo : Question → BoardState → BoardState → Result Outcome Memory → Type 0
-IsAnswerTo q before after (Ok o) = MayTell q o × Says (question_ask q) before after o
-IsAnswerTo q before after (Err memory) = after ≡ before
+-- the board was asked a question at this time and told this, unless memory was wanting: then it is
+-- as it was
+abbrev pub IsAnswerTo : ℕ → Question → BoardState → BoardState → Result Outcome Memory → Type 0
+IsAnswerTo now q before after (Ok o) = MayTell q o × Says now (question_ask q) before after o
+IsAnswerTo now q before after (Err memory) = after ≡ before

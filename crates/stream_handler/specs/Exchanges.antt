@@ -13,6 +13,7 @@ use Rattle.exchange_rules.specs.Rows.{Layout}
 use Rattle.exchange_rules.specs.Recorded.{AreRecorded, AreLookedAt}
 use Rattle.form_request.specs.declared.reading.Message.{Message}
 use Rattle.form_request.specs.declared.request.Request.{Request}
+use Rattle.server_edge.specs.Clocks.{Took}
 use Rattle.stream_handler.specs.Asks.{ask_of}
 use Rattle.stream_handler.specs.Boards.{BoardState, Says}
 use Rattle.stream_handler.specs.Outcomes.{reply_of}
@@ -25,40 +26,45 @@ use Rattle.stream_handler.specs.declared.outcome.Outcome.{Outcome}
 -- the exchange is sound for the course and this answer: over what the writer has seen, its marks
 -- and own marks are those of accesses that follow the whole course, from these counts to those.
 -- What the writer appended meanwhile is just what the own marks say, each step once and in order,
--- and each of them begins where a mark of its cell ends. All times are 0.
-pub record IsSound (me : ℕ) (seen : List Log) (had : List ℕ) (course : Course Outcome)
-    (x : Exchange) (o : Outcome) (end : List ℕ) : Type 0 where
+-- and each of them begins where a mark of its cell ends. It took so long since this time, which a
+-- clock told that may tell these.
+pub record IsSound (tells : ℕ → Type 0) (now me : ℕ) (seen : List Log) (had : List ℕ)
+    (course : Course Outcome) (x : Exchange) (o : Outcome) (end : List ℕ) : Type 0 where
   pub accesses : List Access
   pub marks : x.marks ≡ marks_of accesses
   pub own : x.own ≡ own_of accesses
   pub followed : Follows me seen had course accesses (ends o) end
   pub recorded : AreRecorded me seen had end x.own
   pub looked_at : AreLookedAt x.marks x.own
-  pub at_once : x.millis ≡ 0
+  pub began : tells now
+  pub lasted : Took tells now x.millis
 
--- a message, the exchange that it led to, and its answer
+-- a message, the time when its request began, the exchange that it led to, and its answer
 pub record Answer : Type 0 where
   pub message : Message
+  pub now : ℕ
   pub exchange : Exchange
   pub outcome : Outcome
 
 -- each exchange is sound for its message's request, one after another; where the board is asked it
 -- told the answer itself
-abbrev pub AreSound : Layout → ℕ → List Log → List ℕ → List Answer → List ℕ → Type 0
-AreSound l me seen had [] end = end ≡ had
-AreSound l me seen had (a ∷ answers) end =
+abbrev pub AreSound : (ℕ → Type 0) → Layout → ℕ → List Log → List ℕ → List Answer → List ℕ
+    → Type 0
+AreSound tells l me seen had [] end = end ≡ had
+AreSound tells l me seen had (a ∷ answers) end =
     (mid : List ℕ)
-    × IsSound me seen had (request_course l a.outcome a.message.request) a.exchange a.outcome mid
-    × AreSound l me seen mid answers end
+    × IsSound tells a.now me seen had (request_course l a.outcome a.message.request) a.exchange
+    a.outcome mid
+    × AreSound tells l me seen mid answers end
 
 -- a board from what it was to what it is: each answer is what it said to its message's request, one
--- after another
-abbrev pub BoardsAlong : Layout → BoardState → List Answer → BoardState → Type 0
-BoardsAlong l old [] new = new ≡ old
-BoardsAlong l old (a ∷ answers) new =
+-- after another, at the time when the request began, which a clock told
+abbrev pub BoardsAlong : (ℕ → Type 0) → Layout → BoardState → List Answer → BoardState → Type 0
+BoardsAlong tells l old [] new = new ≡ old
+BoardsAlong tells l old (a ∷ answers) new =
     (mid : BoardState)
-    × Says (ask_of l.names a.message.request) old mid a.outcome
-    × BoardsAlong l mid answers new
+    × tells a.now × Says a.now (ask_of l.names a.message.request) old mid a.outcome
+    × BoardsAlong tells l mid answers new
 
 -- what is written of a message: `100 Continue` where it asks for it, and the reply
 abbrev pub reply_to : Answer → ByteList
@@ -85,29 +91,43 @@ owns_of exchanges = flat_map (λ x. x.own) exchanges
 
 -- a request was carried out and answered: its writer began with an empty record, followed the
 -- request's course, and left its record to the exchange, which is sound; the board was asked what
--- the request asks, and told the answer where that is something
-pub record IsAnswered (l : Layout) (old new : Writer) (before after : BoardState)
-    (request : Request) (a : Answered) : Type 0 where
+-- the request asks, and told the answer where that is something. The time at which it was asked is
+-- one that a clock told, and the exchange took so long since then.
+pub record IsAnswered (tells : ℕ → Type 0) (l : Layout) (old new : Writer)
+    (before after : BoardState) (request : Request) (a : Answered) : Type 0 where
   pub outcome : Outcome
+  pub now : ℕ
+  pub began : tells now
   pub end : Writer
   pub carried : Answers (cleared old) end (request_course l outcome request) outcome
-  pub board : Says (ask_of l.names request) before after outcome
+  pub board : Says now (ask_of l.names request) before after outcome
   pub rest : new ≡ cleared end
   pub marks : a.exchange.marks ≡ end.marks
   pub own : a.exchange.own ≡ end.own
   pub reply : a.reply ≡ reply_of request.closes a.exchange.millis outcome
-  pub at_once : a.exchange.millis ≡ 0
-  pub sound : IsSound old.me end.seen (counts old.seen) (request_course l outcome request)
+  pub lasted : Took tells now a.exchange.millis
+  pub sound : IsSound tells now old.me end.seen (counts old.seen) (request_course l outcome request)
       a.exchange outcome (counts end.seen)
 
--- a request was carried out, and this is the response after no time; where memory was wanting, a
--- beginning of its course was followed, and the board is as it was
-abbrev pub IsResponded : Layout → Writer → Writer → BoardState → BoardState → Request
-    → Result ByteList Memory → Type 0
-IsResponded l old new before after r (Ok bytes) =
-    (o : Outcome) × Answers old new (request_course l o r) o
-    × Says (ask_of l.names r) before after o × (bytes ≡ reply_of r.closes 0 o)
-IsResponded l old new before after r (Err memory) =
+-- a request was carried out, and this is the response so many milliseconds after the time at which
+-- the board was asked, which a clock told
+pub record IsTimed (tells : ℕ → Type 0) (l : Layout) (old new : Writer) (before after : BoardState)
+    (r : Request) (bytes : ByteList) (millis : ℕ) : Type 0 where
+  pub outcome : Outcome
+  pub now : ℕ
+  pub began : tells now
+  pub carried : Answers old new (request_course l outcome r) outcome
+  pub board : Says now (ask_of l.names r) before after outcome
+  pub reply : bytes ≡ reply_of r.closes millis outcome
+  pub lasted : Took tells now millis
+
+-- the same; where memory was wanting, a beginning of its course was followed, and the board is as
+-- it was
+abbrev pub IsResponded : (ℕ → Type 0) → Layout → Writer → Writer → BoardState → BoardState → Request
+    → Result (ByteList × ℕ) Memory → Type 0
+IsResponded tells l old new before after r (Ok made) =
+    IsTimed tells l old new before after r made.0 made.1
+IsResponded tells l old new before after r (Err memory) =
     ((told : Outcome) × Begins old new (request_course l told r)) × (after ≡ before)
 
 -- a request was begun, by a writer that began with an empty record, and memory was wanting: a

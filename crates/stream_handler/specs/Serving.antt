@@ -4,6 +4,7 @@ use Rattle.io_edge.specs.Edge.{Appends, AppendsPrefix, Rose}
 use Rattle.exchange_rules.specs.Following.{Writer, Answers, cleared}
 use Rattle.exchange_rules.specs.Rows.{Layout}
 use Rattle.form_request.specs.declared.request.Request.{Request}
+use Rattle.server_edge.specs.Clocks.{Took}
 use Rattle.stream_handler.specs.Asks.{ask_of}
 use Rattle.stream_handler.specs.Boards.{BoardState, Says}
 use Rattle.stream_handler.specs.Exchanges.{IsBroken}
@@ -17,16 +18,19 @@ use Rattle.stream_handler.specs.declared.exchange.Exchange.{Exchange}
 use Rattle.stream_handler.specs.declared.outcome.Outcome.{Outcome}
 
 -- a writer that began with an empty record carried the request out, and left its record to the
--- exchange; the board was asked what the request asks
-pub record IsCarriedOut (l : Layout) (old new : Writer) (before after : BoardState)
-    (request : Request) (x : Exchange) (o : Outcome) : Type 0 where
+-- exchange; the board was asked what the request asks. The time at which it was asked is one that a
+-- clock told, and the exchange took so long since then.
+pub record IsCarriedOut (tells : ℕ → Type 0) (l : Layout) (old new : Writer)
+    (before after : BoardState) (request : Request) (x : Exchange) (o : Outcome) : Type 0 where
+  pub now : ℕ
+  pub began : tells now
   pub end : Writer
   pub carried : Answers (cleared old) end (request_course l o request) o
-  pub board : Says (ask_of l.names request) before after o
+  pub board : Says now (ask_of l.names request) before after o
   pub rest : new ≡ cleared end
   pub marks : x.marks ≡ end.marks
   pub own : x.own ≡ end.own
-  pub at_once : x.millis ≡ 0
+  pub lasted : Took tells now x.millis
 
 -- a sink before and after: what it has written, and how often it has failed
 pub record Sunk : Type 0 where
@@ -40,20 +44,20 @@ sunk before after failed fails =
     record { before = before; after = after; failed = failed; fails = fails }
 
 -- the request was carried out, and its reply is written
-pub record IsWritten (l : Layout) (old new : Writer) (before after : BoardState)
-    (request : Request) (s : Sunk) (x : Exchange) : Type 0 where
+pub record IsWritten (tells : ℕ → Type 0) (l : Layout) (old new : Writer)
+    (before after : BoardState) (request : Request) (s : Sunk) (x : Exchange) : Type 0 where
   pub stays : s.failed ≤ s.fails
   pub outcome : Outcome
-  pub carried : IsCarriedOut l old new before after request x outcome
+  pub carried : IsCarriedOut tells l old new before after request x outcome
   pub written : Appends s.before s.after (reply_of request.closes x.millis outcome)
 
 -- the same, with a part of its reply
-pub record IsWrittenInPart (l : Layout) (old new : Writer) (before after : BoardState)
-    (request : Request) (s : Sunk) (x : Exchange) : Type 0 where
+pub record IsWrittenInPart (tells : ℕ → Type 0) (l : Layout) (old new : Writer)
+    (before after : BoardState) (request : Request) (s : Sunk) (x : Exchange) : Type 0 where
   pub stays : s.failed ≤ s.fails
   pub rose : Rose s.failed s.fails
   pub outcome : Outcome
-  pub carried : IsCarriedOut l old new before after request x outcome
+  pub carried : IsCarriedOut tells l old new before after request x outcome
   pub written : AppendsPrefix s.before s.after (reply_of request.closes x.millis outcome)
 
 -- a beginning of it was carried out, and nothing is written
@@ -64,16 +68,16 @@ pub record IsLeftOff (l : Layout) (old new : Writer) (before after : BoardState)
   pub fails : s.fails ≡ s.failed
 
 -- how a request was carried out and its reply written
-abbrev pub IsReplied : Layout → Writer → Writer → BoardState → BoardState → Request → Sunk → OneEnd
-    → Type 0
-IsReplied l old new before after request s (Served x) =
-    (request.closes ≡ false) × IsWritten l old new before after request s x
-IsReplied l old new before after request s (Last x) =
-    (request.closes ≡ true) × IsWritten l old new before after request s x
-IsReplied l old new before after request s (Over e None) =
+abbrev pub IsReplied : (ℕ → Type 0) → Layout → Writer → Writer → BoardState → BoardState → Request
+    → Sunk → OneEnd → Type 0
+IsReplied tells l old new before after request s (Served x) =
+    (request.closes ≡ false) × IsWritten tells l old new before after request s x
+IsReplied tells l old new before after request s (Last x) =
+    (request.closes ≡ true) × IsWritten tells l old new before after request s x
+IsReplied tells l old new before after request s (Over e None) =
     (e ≡ end.OutOfMemory) × IsLeftOff l old new before after request s
-IsReplied l old new before after request s (Over e (Some x)) =
-    (e ≡ end.WriteFault) × IsWrittenInPart l old new before after request s x
+IsReplied tells l old new before after request s (Over e (Some x)) =
+    (e ≡ end.WriteFault) × IsWrittenInPart tells l old new before after request s x
 
 -- the exchange of one message that was served, if there is one
 abbrev pub exchanges_in : OneEnd → List Exchange

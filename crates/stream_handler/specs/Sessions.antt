@@ -79,11 +79,12 @@ pub record Stands (names : List NameShards) (old new : Wire) (messages : List Me
   pub came : Came old.left new.left bytes
   pub reads : HeldReads names false (fed old.held bytes) messages after
 
--- the writer's exchanges were these, one after another
-pub record Exchanged (l : Layout) (old new : Writer) (answers : List Answer) : Type 0 where
+-- the writer's exchanges were these, one after another, by a clock that may tell these times
+pub record Exchanged (tells : ℕ → Type 0) (l : Layout) (old new : Writer) (answers : List Answer)
+    : Type 0 where
   pub same : new.me ≡ old.me
   pub grown : Grows old.seen new.seen
-  pub sound : AreSound l old.me new.seen (counts old.seen) answers (counts new.seen)
+  pub sound : AreSound tells l old.me new.seen (counts old.seen) answers (counts new.seen)
   pub looked : (cell : ℕ)
       → get_or new.looks cell 0 ≡ get_or old.looks cell 0 + looks_at cell (looks_of answers)
 
@@ -96,24 +97,24 @@ abbrev pub nothing : Record
 nothing = record { marks = []; own = [] }
 
 -- these messages were answered, and nothing is written of the next one
-pub record IsServed (l : Layout) (old new : Wire) (w v : Writer) (answers : List Answer)
-    : Type 0 where
+pub record IsServed (tells : ℕ → Type 0) (l : Layout) (old new : Wire) (w v : Writer)
+    (answers : List Answer) : Type 0 where
   pub counts : Counts old new
   pub passed : Passed l.names old new (messages_of answers) false
   pub written : Appends old.written new.written (replies_of answers)
-  pub exchanged : Exchanged l w v answers
-  pub boards : BoardsAlong l old.board answers new.board
+  pub exchanged : Exchanged tells l w v answers
+  pub boards : BoardsAlong tells l old.board answers new.board
   pub recorded : record_of v ≡ nothing
 
 -- a request was begun behind these exchanges: its message is read, nothing of its reply is written,
 -- what was done is a beginning of its course, as the record says, and the board was not asked
-pub record IsBegun (l : Layout) (old new : Wire) (w v : Writer) (answers : List Answer)
-    (rest : Record) : Type 0 where
+pub record IsBegun (tells : ℕ → Type 0) (l : Layout) (old new : Wire) (w v : Writer)
+    (answers : List Answer) (rest : Record) : Type 0 where
   pub message : Message
   pub passed : Passed l.names old new (messages_of answers ++ message ∷ []) false
   pub written : Appends old.written new.written (replies_of answers ++ said message.asks)
   pub mid : Writer
-  pub exchanged : Exchanged l w mid answers
+  pub exchanged : Exchanged tells l w mid answers
   pub same : v.me ≡ mid.me
   pub grown : Grows mid.seen v.seen
   pub accesses : List Access
@@ -125,7 +126,7 @@ pub record IsBegun (l : Layout) (old new : Wire) (w v : Writer) (answers : List 
   pub left : Course Outcome
   pub followed : Follows w.me v.seen (counts mid.seen) (request_course l told message.request)
       accesses left (counts v.seen)
-  pub boards : BoardsAlong l old.board answers new.board
+  pub boards : BoardsAlong tells l old.board answers new.board
 
 -- the last of these requests asked to close, and nothing is read behind it
 abbrev pub IsClosed : List Answer → Held → Type 0
@@ -198,68 +199,72 @@ WireEnds names old new answers end.WriteFault =
 WireEnds names old new answers end.OutOfMemory = IsLost names old new answers
 
 -- it ended so, and the writer and the board did what the exchanges say and no more
-pub record IsSettled (l : Layout) (old new : Wire) (w v : Writer) (answers : List Answer)
-    (rest : Record) (e : End) : Type 0 where
+pub record IsSettled (tells : ℕ → Type 0) (l : Layout) (old new : Wire) (w v : Writer)
+    (answers : List Answer) (rest : Record) (e : End) : Type 0 where
   pub ends : WireEnds l.names old new answers e
-  pub exchanged : Exchanged l w v answers
-  pub boards : BoardsAlong l old.board answers new.board
+  pub exchanged : Exchanged tells l w v answers
+  pub boards : BoardsAlong tells l old.board answers new.board
   pub recorded : rest ≡ nothing
 
 -- why a connection was served no further behind these answers, and what stands then
-abbrev pub EndsBy : Layout → Wire → Wire → Writer → Writer → List Answer → Record → End → Type 0
-EndsBy l old new w v answers rest e =
-    IsSettled l old new w v answers rest e
-    ⊎ ((e ≡ end.OutOfMemory) × IsBegun l old new w v answers rest)
+abbrev pub EndsBy : (ℕ → Type 0) → Layout → Wire → Wire → Writer → Writer → List Answer → Record
+    → End → Type 0
+EndsBy tells l old new w v answers rest e =
+    IsSettled tells l old new w v answers rest e
+    ⊎ ((e ≡ end.OutOfMemory) × IsBegun tells l old new w v answers rest)
 
 -- a connection was served no further behind these exchanges
-pub record IsOver (l : Layout) (old new : Wire) (w v : Writer) (answers : List Answer) (rest : Record)
-    (e : End) : Type 0 where
+pub record IsOver (tells : ℕ → Type 0) (l : Layout) (old new : Wire) (w v : Writer)
+    (answers : List Answer) (rest : Record) (e : End) : Type 0 where
   pub counts : Counts old new
-  pub ends : EndsBy l old new w v answers rest e
+  pub ends : EndsBy tells l old new w v answers rest e
 
 -- one message was answered, with this exchange; the connection closes with it or not
-pub record IsOneServed (l : Layout) (old new : Wire) (w v : Writer) (x : Exchange) (last : Bool)
-    : Type 0 where
+pub record IsOneServed (tells : ℕ → Type 0) (l : Layout) (old new : Wire) (w v : Writer)
+    (x : Exchange) (last : Bool) : Type 0 where
   pub answer : Answer
   pub exchange : answer.exchange ≡ x
   pub closes : answer.message.request.closes ≡ last
   pub behind : last ≡ true → new.held.stage ≡ stage.Closed
-  pub served : IsServed l old new w v (answer ∷ [])
+  pub served : IsServed tells l old new w v (answer ∷ [])
 
 -- none was answered, which isn't a close
-pub record IsUnanswered (l : Layout) (old new : Wire) (w v : Writer) (e : End) : Type 0 where
+pub record IsUnanswered (tells : ℕ → Type 0) (l : Layout) (old new : Wire) (w v : Writer) (e : End)
+    : Type 0 where
   pub unclosed : e ≢ end.Closed
-  pub over : IsOver l old new w v [] (record_of v) e
+  pub over : IsOver tells l old new w v [] (record_of v) e
 
 -- one was answered, and its reply is written in part
-pub record IsAnsweredInPart (l : Layout) (old new : Wire) (w v : Writer) (x : Exchange) : Type 0 where
+pub record IsAnsweredInPart (tells : ℕ → Type 0) (l : Layout) (old new : Wire) (w v : Writer)
+    (x : Exchange) : Type 0 where
   pub counts : Counts old new
   pub rose : Rose old.writes new.writes
   pub answer : Answer
   pub exchange : answer.exchange ≡ x
   pub cut : IsCutOff l.names old new (answer ∷ [])
-  pub exchanged : Exchanged l w v (answer ∷ [])
-  pub boards : BoardsAlong l old.board (answer ∷ []) new.board
+  pub exchanged : Exchanged tells l w v (answer ∷ [])
+  pub boards : BoardsAlong tells l old.board (answer ∷ []) new.board
   pub recorded : record_of v ≡ nothing
 
 -- none was answered whole
-abbrev pub IsOneOver : Layout → Wire → Wire → Writer → Writer → Option Exchange → End → Type 0
-IsOneOver l old new w v None e = IsUnanswered l old new w v e
-IsOneOver l old new w v (Some x) e =
-    (e ≡ end.WriteFault) × IsAnsweredInPart l old new w v x
+abbrev pub IsOneOver : (ℕ → Type 0) → Layout → Wire → Wire → Writer → Writer → Option Exchange → End
+    → Type 0
+IsOneOver tells l old new w v None e = IsUnanswered tells l old new w v e
+IsOneOver tells l old new w v (Some x) e =
+    (e ≡ end.WriteFault) × IsAnsweredInPart tells l old new w v x
 
 -- how one message of a connection was served
-abbrev pub IsOneEnd : Layout → Wire → Wire → Writer → Writer → OneEnd → Type 0
-IsOneEnd l old new w v (Served x) = IsOneServed l old new w v x false
-IsOneEnd l old new w v (Last x) = IsOneServed l old new w v x true
-IsOneEnd l old new w v (Over e unfinished) = IsOneOver l old new w v unfinished e
+abbrev pub IsOneEnd : (ℕ → Type 0) → Layout → Wire → Wire → Writer → Writer → OneEnd → Type 0
+IsOneEnd tells l old new w v (Served x) = IsOneServed tells l old new w v x false
+IsOneEnd tells l old new w v (Last x) = IsOneServed tells l old new w v x true
+IsOneEnd tells l old new w v (Over e unfinished) = IsOneOver tells l old new w v unfinished e
 
 -- a connection that was served to its end: these are its exchanges, and what is left of the record
-pub record IsSession (l : Layout) (old new : Wire) (w v : Writer) (exchanges : List Exchange)
-    (rest : Record) (e : End) : Type 0 where
+pub record IsSession (tells : ℕ → Type 0) (l : Layout) (old new : Wire) (w v : Writer)
+    (exchanges : List Exchange) (rest : Record) (e : End) : Type 0 where
   pub answers : List Answer
   pub exchanges_are : exchanges ≡ exchanges_of answers
-  pub over : IsOver l old new w v answers rest e
+  pub over : IsOver tells l old new w v answers rest e
 
 -- none of these requests asked to close
 abbrev pub AreOpen : List Answer → Type 0
@@ -277,17 +282,17 @@ IsWithin answers end.WriteFault = length answers ≤ most_requests
 IsWithin answers end.OutOfMemory = (length answers < most_requests) × AreOpen answers
 
 -- a connection was served to its end, with as many requests as it may have
-pub record IsBounded (l : Layout) (old new : Wire) (w v : Writer) (exchanges : List Exchange)
-    (rest : Record) (e : End) : Type 0 where
-  pub session : IsSession l old new w v exchanges rest e
+pub record IsBounded (tells : ℕ → Type 0) (l : Layout) (old new : Wire) (w v : Writer)
+    (exchanges : List Exchange) (rest : Record) (e : End) : Type 0 where
+  pub session : IsSession tells l old new w v exchanges rest e
   pub within : IsWithin session.answers e
 
 -- the same of a connection that began with nothing, by what is known of its ends
-abbrev pub IsConnection : Layout → Wire → Option (List ℕ) → ℕ → Option (List ℕ) → ℕ → BoardState
-    → Writer → Writer → SessionEnd → Type 0
-IsConnection l old left reads written writes board w v s =
+abbrev pub IsConnection : (ℕ → Type 0) → Layout → Wire → Option (List ℕ) → ℕ → Option (List ℕ) → ℕ
+    → BoardState → Writer → Writer → SessionEnd → Type 0
+IsConnection tells l old left reads written writes board w v s =
     (held : Held)
-    × IsBounded l old (wire held left reads written writes board) w v s.exchanges s.rest s.end
+    × IsBounded tells l old (wire held left reads written writes board) w v s.exchanges s.rest s.end
     × (record_of v ≡ nothing)
 
 -- at each cell, what the writer appended is just what the own marks of the exchanges, and then

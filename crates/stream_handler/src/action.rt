@@ -93,14 +93,20 @@ fn change_of(action: &str) -> Option<Change>
     }
 }
 
-/// Asks the board for the change of a daemon.
-pub(crate) fn ask_for<D: Daemons>(board: &mut D, what: Change, id: &str) -> Result<(), BoardFault>
-    ensures told { WhereTold (D.shown board.old) (D.shown board.new) (Makes what id.now result) }
+/// Asks the board for the change of a daemon at this time.
+pub(crate) fn ask_for<D: Daemons>(
+    board: &mut D,
+    what: Change,
+    id: &str,
+    now: u64,
+) -> Result<(), BoardFault>
+    ensures told { WhereTold (D.shown board.old) (D.shown board.new)
+        (Makes now what id.now result) }
     ensures counted { D.answers board.new ≡ after_change what result (D.answers board.old) }
 {
     match what {
         Change::Stop => board.stop(id),
-        Change::Start => board.resume(id, 0),
+        Change::Start => board.resume(id, now),
         Change::Kill => board.kill(id),
     }
 }

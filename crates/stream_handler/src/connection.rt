@@ -11,6 +11,7 @@ use daemon_board::Daemons;
 use form_request::Requests;
 use io_edge::{Gate, Sink, Source};
 use root_runs::take_record_over;
+use server_edge::Clock;
 use std::alloc::Global;
 use std::thread::Threads;
 use stream_site::Turns;
@@ -43,7 +44,7 @@ fn keep(exchanges: &mut Vec<Exchange>, one: OneEnd) -> Option<End>
 }
 
 // Serves the requests of a connection until it is over, or as many as it has at most.
-fn serve_all<T: Turns, D: Daemons, R: Threads + Sync, S: Source, K: Sink, G: Gate>(
+fn serve_all<T: Turns, D: Daemons, R: Threads + Sync, S: Source, K: Sink, C: Clock, G: Gate>(
     alloc: Global,
     rt: &R,
     site: &mut T,
@@ -51,10 +52,11 @@ fn serve_all<T: Turns, D: Daemons, R: Threads + Sync, S: Source, K: Sink, G: Gat
     requests: &mut Requests,
     source: &mut S,
     sink: &mut K,
+    clock: &C,
     gate: &G,
 ) -> (Vec<Exchange>, End)
     requires { record_of (T.writer site.old) ≡ nothing }
-    ensures served { IsBounded (T.layout site.old)
+    ensures served { IsBounded (C.tells clock.now) (T.layout site.old)
         (wire requests.old (S.left source.old) (S.faults source.old) (K.written sink.old)
         (K.faults sink.old) (board_state (D.shown board.old) (D.answers board.old)))
         (wire requests.new (S.left source.new) (S.faults source.new) (K.written sink.new)
@@ -68,7 +70,7 @@ fn serve_all<T: Turns, D: Daemons, R: Threads + Sync, S: Source, K: Sink, G: Gat
         if exchanges.reserve(1).is_err() {
             return (exchanges, End::OutOfMemory);
         }
-        let one = serve_one(alloc, rt, site, board, requests, source, sink, gate);
+        let one = serve_one(alloc, rt, site, board, requests, source, sink, clock, gate);
         if let Some(end) = keep(&mut exchanges, one) {
             return (exchanges, end);
         }
@@ -77,16 +79,25 @@ fn serve_all<T: Turns, D: Daemons, R: Threads + Sync, S: Source, K: Sink, G: Gat
 }
 
 /// Serves a connection to its end. At most 10,000 requests are answered.
-pub fn serve_connection<T: Turns, D: Daemons, R: Threads + Sync, S: Source, K: Sink, G: Gate>(
+pub fn serve_connection<
+    T: Turns,
+    D: Daemons,
+    R: Threads + Sync,
+    S: Source,
+    K: Sink,
+    C: Clock,
+    G: Gate,
+>(
     alloc: Global,
     rt: &R,
     site: &mut T,
     board: &mut D,
     source: &mut S,
     sink: &mut K,
+    clock: &C,
     gate: &G,
 ) -> SessionEnd
-    ensures session { IsConnection (T.layout site.old)
+    ensures session { IsConnection (C.tells clock.now) (T.layout site.old)
         (wire begun (S.left source.old) (S.faults source.old) (K.written sink.old)
         (K.faults sink.old) (board_state (D.shown board.old) (D.answers board.old)))
         (S.left source.new) (S.faults source.new) (K.written sink.new) (K.faults sink.new)
@@ -98,7 +109,17 @@ pub fn serve_connection<T: Turns, D: Daemons, R: Threads + Sync, S: Source, K: S
 {
     let _ = take_record_over(site);
     let mut requests = Requests::begin(alloc);
-    let (exchanges, end) = serve_all(alloc, rt, site, board, &mut requests, source, sink, gate);
+    let (exchanges, end) = serve_all(
+        alloc,
+        rt,
+        site,
+        board,
+        &mut requests,
+        source,
+        sink,
+        clock,
+        gate,
+    );
     SessionEnd {
         exchanges: Exchanges::from_vec(exchanges),
         end,

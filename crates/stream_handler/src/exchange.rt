@@ -10,6 +10,7 @@ use daemon_board::Daemons;
 use form_request::Request;
 use io_edge::Gate;
 use root_runs::take_record_over;
+use server_edge::{Clock, since};
 use shard_versions::{CutMarks, OwnMarks};
 use std::alloc::Global;
 use std::thread::Threads;
@@ -35,39 +36,46 @@ pub struct Answered {
     pub exchange: Exchange,
 }
 
-// Carries out a request, and gives the response to it after no time. All responses that there may
-// be are made before the board is asked.
-fn respond<T: Turns, D: Daemons, R: Threads + Sync, G: Gate>(
+// Carries out a request, and gives the response to it and how many milliseconds that took. All
+// responses that there may be are made before the board is asked, at the time of the beginning.
+fn respond<T: Turns, D: Daemons, R: Threads + Sync, C: Clock, G: Gate>(
     alloc: Global,
     rt: &R,
     site: &mut T,
     board: &mut D,
     request: &Request,
+    clock: &C,
     gate: &G,
-) -> Result<Bytes, Memory>
-    ensures responded { IsResponded (T.layout site.old) (T.writer site.old) (T.writer site.new)
+) -> Result<(Bytes, u64), Memory>
+    ensures responded { IsResponded (C.tells clock.now)
+        (T.layout site.old) (T.writer site.old) (T.writer site.new)
         (board_state (D.shown board.old) (D.answers board.old))
         (board_state (D.shown board.new) (D.answers board.new)) request.now result }
     ensures stays { Stays T.layout T.home T.free site.old site.new }
 {
+    let now = clock.now_ms();
     let question = request_question(alloc, rt, site, request, gate)?;
     let prepared = prepare(alloc, board, question)?;
-    let replies = prepared.replies(alloc, request.closes)?;
-    replies.ask(alloc, board)
+    let millis = since(clock, now);
+    let replies = prepared.replies(alloc, request.closes, millis)?;
+    let reply = replies.ask(alloc, board, now)?;
+    Ok((reply, millis))
 }
 
 /// Carries out a request, which is dropped. The site's record begins anew, and is the exchange's at
-/// the end. Where memory was wanting, what was done so far stands in the record, and the board is as
-/// it was. All times are 0.
-pub fn answer<T: Turns, D: Daemons, R: Threads + Sync, G: Gate>(
+/// the end. Where memory was wanting, what was done so far stands in the record, and the board is
+/// as it was. The clock is asked at the beginning, and the board is told that time; it is asked
+/// once more before the reply is made, which tells how long it took.
+pub fn answer<T: Turns, D: Daemons, R: Threads + Sync, C: Clock, G: Gate>(
     alloc: Global,
     rt: &R,
     site: &mut T,
     board: &mut D,
     request: Request,
+    clock: &C,
     gate: &G,
 ) -> Result<Answered, Memory>
-    ensures ok { IfOk result (IsAnswered (T.layout site.old) (T.writer site.old)
+    ensures ok { IfOk result (IsAnswered (C.tells clock.now) (T.layout site.old) (T.writer site.old)
         (T.writer site.new) (board_state (D.shown board.old) (D.answers board.old))
         (board_state (D.shown board.new) (D.answers board.new)) request) }
     ensures err { IfErr result (λ _. IsBroken (T.layout site.old) (T.writer site.old)
@@ -77,12 +85,12 @@ pub fn answer<T: Turns, D: Daemons, R: Threads + Sync, G: Gate>(
     ensures free { T.free site.new }
 {
     let _ = take_record_over(site);
-    let reply = respond(alloc, rt, site, board, &request, gate)?;
+    let (reply, millis) = respond(alloc, rt, site, board, &request, clock, gate)?;
     let record = take_record_over(site);
     let exchange = Exchange {
         marks: record.marks,
         own: record.own,
-        millis: 0,
+        millis,
     };
     Ok(Answered { reply, exchange })
 }

@@ -134,26 +134,28 @@ fn expression_question<T: Turns, R: Threads + Sync, G: Gate>(
 }
 
 /// What the bytes of an expression do at the site, or the exception of their first fault. A daemon
-/// is put on the board, where it runs from now on. The board is asked last: where memory is wanting
-/// it is as it was.
+/// is put on the board, where it runs from `now` on, in milliseconds. The board is asked last:
+/// where memory is wanting it is as it was.
 pub fn run_expression<T: Turns, D: Daemons, R: Threads + Sync, G: Gate>(
     alloc: Global,
     rt: &R,
     site: &mut T,
     board: &mut D,
     bytes: &[u8],
+    now: u64,
     gate: &G,
 ) -> Result<Outcome, Memory>
     ensures course { CarriedWith (T.writer site.old) (T.writer site.new) (λ told.
         expression_course (T.layout site.old) told
         (expression_of All (T.layout site.old).names bytes.now)) result }
-    ensures asked { IsAsked (expression_ask (expression_of All (T.layout site.old).names bytes.now))
+    ensures asked { IsAsked now
+        (expression_ask (expression_of All (T.layout site.old).names bytes.now))
         (board_state (D.shown board.old) (D.answers board.old))
         (board_state (D.shown board.new) (D.answers board.new)) result }
     ensures stays { Stays T.layout T.home T.free site.old site.new }
 {
     let question = expression_question(alloc, rt, site, bytes, gate)?;
-    ask(alloc, board, question)
+    ask(alloc, board, question, now)
 }
 
 /// What the expression of a parameter does at the site, and what it asks of the board.

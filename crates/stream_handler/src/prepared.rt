@@ -41,18 +41,18 @@ impl<A: Drop> StartTold<A> {
 }
 
 impl StartTold<Outcome> {
-    // The responses that tell it.
-    fn replies(self, alloc: Global, closes: bool) -> Result<StartTold<Bytes>, Memory>
-        ensures { IfOk result (λ told. told ≡ start_replies closes self) }
+    // The responses that tell it, after so many milliseconds.
+    fn replies(self, alloc: Global, closes: bool, millis: u64) -> Result<StartTold<Bytes>, Memory>
+        ensures { IfOk result (λ told. told ≡ start_replies closes millis self) }
     {
         let StartTold {
             started,
             taken,
             full,
         } = self;
-        let started = started.reply(alloc, closes, 0)?;
-        let taken = taken.reply(alloc, closes, 0)?;
-        let full = full.reply(alloc, closes, 0)?;
+        let started = started.reply(alloc, closes, millis)?;
+        let taken = taken.reply(alloc, closes, millis)?;
+        let full = full.reply(alloc, closes, millis)?;
         Ok(StartTold {
             started,
             taken,
@@ -82,21 +82,26 @@ pub(crate) enum Prepared<A> {
 }
 
 impl Prepared<Outcome> {
-    /// The same with the response to each answer, after no time. Where the connection closes with
-    /// it, it says so.
-    pub(crate) fn replies(self, alloc: Global, closes: bool) -> Result<Prepared<Bytes>, Memory>
-        ensures { IfOk result (λ replies. replies ≡ replied closes self) }
+    /// The same with the response to each answer, after so many milliseconds. Where the connection
+    /// closes with it, it says so.
+    pub(crate) fn replies(
+        self,
+        alloc: Global,
+        closes: bool,
+        millis: u64,
+    ) -> Result<Prepared<Bytes>, Memory>
+        ensures { IfOk result (λ replies. replies ≡ replied closes millis self) }
     {
         match self {
-            Prepared::Told(outcome) => Ok(Prepared::Told(outcome.reply(alloc, closes, 0)?)),
+            Prepared::Told(outcome) => Ok(Prepared::Told(outcome.reply(alloc, closes, millis)?)),
             Prepared::Change {
                 what,
                 id,
                 made,
                 unknown,
             } => {
-                let made = made.reply(alloc, closes, 0)?;
-                let unknown = unknown.reply(alloc, closes, 0)?;
+                let made = made.reply(alloc, closes, millis)?;
+                let unknown = unknown.reply(alloc, closes, millis)?;
                 Ok(Prepared::Change {
                     what,
                     id,
@@ -109,7 +114,7 @@ impl Prepared<Outcome> {
                 checked,
                 told,
             } => {
-                let told = told.replies(alloc, closes)?;
+                let told = told.replies(alloc, closes, millis)?;
                 Ok(Prepared::Start {
                     daemon,
                     checked,
@@ -120,27 +125,35 @@ impl Prepared<Outcome> {
     }
 }
 
-// Asks the board for the change of a daemon, and picks what is told.
-fn ask_change<A: Drop, D: Daemons>(board: &mut D, what: Change, id: Text, made: A, unknown: A) -> A
-    ensures { IsChangeChosen what id made unknown
+// Asks the board for the change of a daemon at this time, and picks what is told.
+fn ask_change<A: Drop, D: Daemons>(
+    board: &mut D,
+    what: Change,
+    id: Text,
+    made: A,
+    unknown: A,
+    now: u64,
+) -> A
+    ensures { IsChangeChosen now what id made unknown
         (board_state (D.shown board.old) (D.answers board.old))
         (board_state (D.shown board.new) (D.answers board.new)) result }
 {
-    match ask_for(board, what, id.as_str()) {
+    match ask_for(board, what, id.as_str(), now) {
         Ok(()) => made,
         Err(_) => unknown,
     }
 }
 
-// Puts an expression on the board, and picks what is told.
+// Puts an expression on the board at this time, and picks what is told.
 fn ask_start<A: Drop, D: Daemons>(
     alloc: Global,
     board: &mut D,
     daemon: NewDaemon,
     checked: Checked,
     told: StartTold<A>,
+    now: u64,
 ) -> Result<A, Memory>
-    ensures { IsStartAsked daemon checked told
+    ensures { IsStartAsked now daemon checked told
         (board_state (D.shown board.old) (D.answers board.old))
         (board_state (D.shown board.new) (D.answers board.new)) result }
 {
@@ -149,14 +162,15 @@ fn ask_start<A: Drop, D: Daemons>(
         interval,
         terminate,
     } = daemon;
-    let answer = board.start(alloc, id, checked, interval, terminate, 0);
+    let answer = board.start(alloc, id, checked, interval, terminate, now);
     told.pick(answer)
 }
 
 impl<A: Drop> Prepared<A> {
-    /// Asks the board, and picks what is told of its answer. Only a start may want memory.
-    pub(crate) fn ask<D: Daemons>(self, alloc: Global, board: &mut D) -> Result<A, Memory>
-        ensures { IsChosen self (board_state (D.shown board.old) (D.answers board.old))
+    /// Asks the board at this time, and picks what is told of its answer. Only a start may want
+    /// memory.
+    pub(crate) fn ask<D: Daemons>(self, alloc: Global, board: &mut D, now: u64) -> Result<A, Memory>
+        ensures { IsChosen now self (board_state (D.shown board.old) (D.answers board.old))
             (board_state (D.shown board.new) (D.answers board.new)) result }
     {
         match self {
@@ -166,12 +180,12 @@ impl<A: Drop> Prepared<A> {
                 id,
                 made,
                 unknown,
-            } => Ok(ask_change(board, what, id, made, unknown)),
+            } => Ok(ask_change(board, what, id, made, unknown, now)),
             Prepared::Start {
                 daemon,
                 checked,
                 told,
-            } => ask_start(alloc, board, daemon, checked, told),
+            } => ask_start(alloc, board, daemon, checked, told, now),
         }
     }
 }

@@ -1,6 +1,6 @@
 // What requests ask of the board, once they are carried out at the site.
 ghost use Rattle.std.specs.Prelude.{◌≡◌, IfOk};
-ghost use Rattle.stream_handler.specs.Boards.{IsAsked, board_state, lists};
+ghost use Rattle.stream_handler.specs.Boards.{IsListing, board_state};
 ghost use Rattle.stream_handler.specs.Choices.{IsAnswerTo, IsPrepared, prepared_change, prepared_start, start_told};
 
 use crate::Outcome;
@@ -27,7 +27,7 @@ pub(crate) enum Question {
 
 // Gives the tuples of the board, which stays as it is.
 fn list<D: Daemons>(alloc: Global, board: &mut D) -> Result<Outcome, Memory>
-    ensures { IsAsked lists (board_state (D.shown board.old) (D.answers board.old))
+    ensures { IsListing (board_state (D.shown board.old) (D.answers board.old))
         (board_state (D.shown board.new) (D.answers board.new)) result }
 {
     let docs = board.list(alloc)?;
@@ -104,15 +104,16 @@ pub(crate) fn prepare<D: Daemons>(
     }
 }
 
-/// Asks the board a question. What it may be answered is made before.
+/// Asks the board a question at this time. What it may be answered is made before.
 pub(crate) fn ask<D: Daemons>(
     alloc: Global,
     board: &mut D,
     question: Question,
+    now: u64,
 ) -> Result<Outcome, Memory>
-    ensures { IsAnswerTo question (board_state (D.shown board.old) (D.answers board.old))
+    ensures { IsAnswerTo now question (board_state (D.shown board.old) (D.answers board.old))
         (board_state (D.shown board.new) (D.answers board.new)) result }
 {
     let prepared = prepare(alloc, board, question)?;
-    prepared.ask(alloc, board)
+    prepared.ask(alloc, board, now)
 }

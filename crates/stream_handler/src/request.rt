@@ -130,22 +130,24 @@ pub(crate) fn request_question<T: Turns, R: Threads + Sync, G: Gate>(
 
 /// What a request does at the site or asks of the board, and is answered (Solr Reference Guide,
 /// "Streaming Expressions", the `/stream` handler, and "Indexing with Update Handlers"; actions and
-/// texts of refusals own). The board is asked last: where memory is wanting it is as it was.
+/// texts of refusals own). The board is asked last, at the time `now`, in milliseconds: where
+/// memory is wanting it is as it was.
 pub fn run_request<T: Turns, D: Daemons, R: Threads + Sync, G: Gate>(
     alloc: Global,
     rt: &R,
     site: &mut T,
     board: &mut D,
     request: &Request,
+    now: u64,
     gate: &G,
 ) -> Result<Outcome, Memory>
     ensures course { CarriedWith (T.writer site.old) (T.writer site.new) (λ told.
         request_course (T.layout site.old) told request.now) result }
-    ensures asked { IsAsked (ask_of (T.layout site.old).names request.now)
+    ensures asked { IsAsked now (ask_of (T.layout site.old).names request.now)
         (board_state (D.shown board.old) (D.answers board.old))
         (board_state (D.shown board.new) (D.answers board.new)) result }
     ensures stays { Stays T.layout T.home T.free site.old site.new }
 {
     let question = request_question(alloc, rt, site, request, gate)?;
-    ask(alloc, board, question)
+    ask(alloc, board, question, now)
 }

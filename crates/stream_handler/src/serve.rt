@@ -11,21 +11,24 @@ use daemon_board::Daemons;
 use form_request::{Request, Requests};
 use io_edge::{Gate, Put, Sink, Source};
 use root_runs::take_record_over;
+use server_edge::Clock;
 use std::alloc::Global;
 use std::thread::Threads;
 use stream_site::Turns;
 
 // Carries out a request and writes its reply.
-fn reply_to<T: Turns, D: Daemons, R: Threads + Sync, K: Sink, G: Gate>(
+fn reply_to<T: Turns, D: Daemons, R: Threads + Sync, K: Sink, C: Clock, G: Gate>(
     alloc: Global,
     rt: &R,
     site: &mut T,
     board: &mut D,
     request: Request,
     sink: &mut K,
+    clock: &C,
     gate: &G,
 ) -> OneEnd
-    ensures replied { IsReplied (T.layout site.old) (T.writer site.old) (T.writer site.new)
+    ensures replied { IsReplied (C.tells clock.now)
+        (T.layout site.old) (T.writer site.old) (T.writer site.new)
         (board_state (D.shown board.old) (D.answers board.old))
         (board_state (D.shown board.new) (D.answers board.new)) request
         (sunk (K.written sink.old) (K.written sink.new) (K.faults sink.old) (K.faults sink.new))
@@ -34,7 +37,7 @@ fn reply_to<T: Turns, D: Daemons, R: Threads + Sync, K: Sink, G: Gate>(
     ensures free { T.free site.new }
 {
     let closes = request.closes;
-    let Ok(answered) = answer(alloc, rt, site, board, request, gate) else {
+    let Ok(answered) = answer(alloc, rt, site, board, request, clock, gate) else {
         return OneEnd::Over {
             end: End::OutOfMemory,
             unfinished: None,
@@ -53,7 +56,7 @@ fn reply_to<T: Turns, D: Daemons, R: Threads + Sync, K: Sink, G: Gate>(
 
 /// Serves the next request of a connection. The site's record begins anew. What is held of the
 /// stream and what is taken from the source is read as one.
-pub fn serve_one<T: Turns, D: Daemons, R: Threads + Sync, S: Source, K: Sink, G: Gate>(
+pub fn serve_one<T: Turns, D: Daemons, R: Threads + Sync, S: Source, K: Sink, C: Clock, G: Gate>(
     alloc: Global,
     rt: &R,
     site: &mut T,
@@ -61,9 +64,10 @@ pub fn serve_one<T: Turns, D: Daemons, R: Threads + Sync, S: Source, K: Sink, G:
     requests: &mut Requests,
     source: &mut S,
     sink: &mut K,
+    clock: &C,
     gate: &G,
 ) -> OneEnd
-    ensures served { IsOneEnd (T.layout site.old)
+    ensures served { IsOneEnd (C.tells clock.now) (T.layout site.old)
         (wire requests.old (S.left source.old) (S.faults source.old) (K.written sink.old)
         (K.faults sink.old) (board_state (D.shown board.old) (D.answers board.old)))
         (wire requests.new (S.left source.new) (S.faults source.new) (K.written sink.new)
@@ -74,7 +78,7 @@ pub fn serve_one<T: Turns, D: Daemons, R: Threads + Sync, S: Source, K: Sink, G:
 {
     let _ = take_record_over(site);
     match next_request(alloc, site.names(), requests, source, sink) {
-        Ok(request) => reply_to(alloc, rt, site, board, request, sink, gate),
+        Ok(request) => reply_to(alloc, rt, site, board, request, sink, clock, gate),
         Err(end) => OneEnd::Over {
             end,
             unfinished: None,

@@ -3,5 +3,5 @@ use Rattle.expr_cases.proofs.case.run.Goals as goal
 
 pub returns : goal.returns
 returns g c =
-    asked_kept c.args.board.now c.run_request.new.board _ c.run_request.result c.requires
+    asked_kept _ c.args.board.now c.run_request.new.board _ c.run_request.result c.requires
     c.run_request.ensures.asked

@@ -3,5 +3,5 @@ use Rattle.expr_cases.proofs.case.run_text.Goals as goal
 
 pub returns : goal.returns
 returns g c =
-    asked_kept c.args.board.now c.run_expression.new.board _ c.run_expression.result c.requires
+    asked_kept _ c.args.board.now c.run_expression.new.board _ c.run_expression.result c.requires
     c.run_expression.ensures.asked

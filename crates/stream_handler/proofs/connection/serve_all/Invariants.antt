@@ -7,7 +7,7 @@ use Rattle.stream_handler.proofs.connection.serve_all.Given as goal
 -- the messages so far were served, and what stays over a call stays
 abbrev pub invariant-loop : goal.invariant-loop
 invariant-loop g l = record {
-  goes : GoesOn (g.T.Turns.layout l.fn.site) (g.T.Turns.layout l.site)
+  goes : GoesOn (g.C.Clock.tells l.fn.clock) (g.T.Turns.layout l.fn.site) (g.T.Turns.layout l.site)
       (wire l.fn.requests (g.S.Source.left l.fn.source) (g.S.Source.faults l.fn.source)
       (g.K.Sink.written l.fn.sink) (g.K.Sink.faults l.fn.sink)
       (board_state (g.D.Daemons.shown l.fn.board) (g.D.Daemons.answers l.fn.board)))

@@ -11,7 +11,7 @@ returns-in_err-reply-clause-err g c =
 
 pub returns-clause-ok : goal.returns-clause-ok
 returns-clause-ok g c =
-    let responded = c.in_ok-reply.ensures.responded in
-    answered_of c.take_record_over.ensures.rest c.take_record_over.ensures.stays.layout
-    responded.1 responded.2 c.take_record_over-record.ensures.rest
-    c.take_record_over-record.ensures.marks c.take_record_over-record.ensures.own responded.3 refl
+    answered_of _ c.in_ok-reply.reply c.in_ok-reply.millis c.take_record_over.ensures.rest
+    c.take_record_over.ensures.stays.layout c.in_ok-reply.ensures.responded
+    c.take_record_over-record.ensures.rest c.take_record_over-record.ensures.marks
+    c.take_record_over-record.ensures.own refl refl

@@ -19,17 +19,18 @@ pub returns-in_err-question-clause-asked : goal.returns-in_err-question-clause-a
 returns-in_err-question-clause-asked g c =
     let l = g.T.Turns.layout c.args.site.now in
     let r = err_from_is_err_and c.from_residual.result c.from_residual.ensures.1 in
-    unasked (expression_ask (expression_of All l.names c.args.bytes.now)) _ c.from_residual.result
-    r.0 r.1
+    unasked c.args.now (expression_ask (expression_of All l.names c.args.bytes.now)) _
+    c.from_residual.result r.0 r.1
 
 pub returns-clause-course : goal.returns-clause-course
 returns-clause-course g c =
     let l = g.T.Turns.layout c.args.site.now in
-    told_answer _ _ (λ told. expression_course l told (expression_of All l.names c.args.bytes.now))
+    told_answer c.args.now _ _
+    (λ told. expression_course l told (expression_of All l.names c.args.bytes.now))
     c.in_ok-question.question _ _ c.ask.result c.in_ok-question.ensures.course c.ask.ensures
 
 pub returns-clause-asked : goal.returns-clause-asked
 returns-clause-asked g c =
     let l = g.T.Turns.layout c.args.site.now in
-    asked_by (expression_ask (expression_of All l.names c.args.bytes.now)) c.in_ok-question.question
-    _ _ c.ask.result c.in_ok-question.ensures.asks c.ask.ensures
+    asked_by c.args.now (expression_ask (expression_of All l.names c.args.bytes.now))
+    c.in_ok-question.question _ _ c.ask.result c.in_ok-question.ensures.asks c.ask.ensures
