@@ -108,7 +108,7 @@ module _ (names : List NameShards) (limit : ℕ) (abouts : List CellAbout) (star
         record {
           opened = o;
           inside = q;
-          there = ap (λ (t : Option TablePass × List CutMark × List OwnMark). t.0) here;
+          there = ap (λ (t : Option TablePass × List CutMark × List OwnMark × ℕ). t.0) here;
           table_is = a.0;
           numbered = ap (λ (k : Known CellAbout LogEntry). k.numbers) knows ∙ w;
           knowing = subst (IsKnowing names limit) (sym knows) (fresh-knowing n l.0);
@@ -134,7 +134,7 @@ module _ (names : List NameShards) (limit : ℕ) (abouts : List CellAbout) (star
       let knows : known q ≡ new_pass n = cc in
       let others : map known inside ≡ map new_pass numbers = cc in
       let is : writer_of p ≡ new_writer names n =
-      ap (λ (t : Option TablePass × List CutMark × List OwnMark). writer_where t.0 t.1 t.2) here
+      ap (λ (t : Option TablePass × List CutMark × List OwnMark × ℕ). writer_where t.0 t.1 t.2) here
       ∙ ((λ i. writer_in (knows i) [] [])
       ∙ (λ i. record {
         me = n;
@@ -161,3 +161,16 @@ since-of table key names limit o p =
     subst (λ x. (cell : ℕ) → 0 < slice_index (sight_where x).looks cell
     → AreSeenOf (last_seen (sight_where x) cell) (sight_where x).seen) (sym p.there)
     (λ cell looked. were-are (last_seen inside cell) inside.seen (p.knowing.since cell looked))
+
+-- the time of each new pass is 0
+pub fresh-now : (inside : List TablePass) (made : List (PassOf TablePass))
+    → map content made ≡ map recorded inside
+    → AllByRecursion (λ (p : PassOf TablePass). p.now ≡ 0) made
+fresh-now inside [] e = tt
+fresh-now [] (p ∷ made) e = absurd (cc)
+fresh-now (q ∷ inside) (p ∷ made) e =
+    let here : content p ≡ recorded q = cc in
+    let rest : map content made ≡ map recorded inside = cc in (
+      ap (λ (t : Option TablePass × List CutMark × List OwnMark × ℕ). t.3) here,
+      fresh-now inside made rest,
+    )

@@ -1,17 +1,17 @@
 -- Passes with their records (own).
-use Rattle.std.specs.Prelude.{◌++◌, ◌∷◌, [], List, Option, None, Some}
+use Rattle.std.specs.Prelude.{ℕ, ◌++◌, ◌∷◌, [], List, Option, None, Some}
 use Rattle.shard_versions.specs.declared.cut.CutMark.{CutMark}
 use Rattle.shard_versions.specs.declared.cut.OwnMark.{OwnMark}
 use Rattle.running_site.specs.Passes.{TablePass}
 use Rattle.running_site.specs.declared.pass.PassOf.{PassOf}
 
--- what a pass has: its pass of the table, and its record
-abbrev pub content : PassOf TablePass → Option TablePass × List CutMark × List OwnMark
-content pass = (pass.pass, pass.marks.items, pass.own.items)
+-- what a pass has: its pass of the table, its record, and its time
+abbrev pub content : PassOf TablePass → Option TablePass × List CutMark × List OwnMark × ℕ
+content pass = (pass.pass, pass.marks.items, pass.own.items, pass.now)
 
--- this pass of the table with an empty record
-abbrev pub recorded : TablePass → Option TablePass × List CutMark × List OwnMark
-recorded pass = (Some pass, [], [])
+-- this pass of the table with an empty record, at the time 0
+abbrev pub recorded : TablePass → Option TablePass × List CutMark × List OwnMark × ℕ
+recorded pass = (Some pass, [], [], 0)
 
 -- the pass of the table, where it is there
 abbrev pub inside_of : Option TablePass → List TablePass

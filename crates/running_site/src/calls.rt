@@ -48,6 +48,7 @@ impl SiteOf<SiteCell> {
         requires { IsPassAt self.now pass.old }
         ensures own { IsPassAt self.now pass.new }
         ensures number { number_of pass.new ≡ number_of pass.old }
+        ensures now { pass.new.now ≡ pass.old.now }
         ensures course { Completed (writer_of pass.old) (writer_of pass.new)
             (cut_course self.now.names [] collections.now) result }
         ensures stored { OnOk result ((src dest : ByteList) → Contains collections.now dest
@@ -76,6 +77,7 @@ impl SiteOf<SiteCell> {
         requires storable { AreStorableWrites writes }
         ensures own { IsPassAt self.now pass.new }
         ensures number { number_of pass.new ≡ number_of pass.old }
+        ensures now { pass.new.now ≡ pass.old.now }
         ensures course { Answered (writer_of pass.old) (writer_of pass.new)
             (index_course (layout_at self.now) collection.now writes commit)
             result }
@@ -97,6 +99,7 @@ impl SiteOf<SiteCell> {
         requires { IsPassAt self.now pass.old }
         ensures own { IsPassAt self.now pass.new }
         ensures number { number_of pass.new ≡ number_of pass.old }
+        ensures now { pass.new.now ≡ pass.old.now }
         ensures course { Answered (writer_of pass.old) (writer_of pass.new)
             (commit_course (layout_at self.now) collection.now) result }
     {
@@ -122,6 +125,7 @@ impl SiteOf<SiteCell> {
             batch }
         ensures own { IsPassAt self.now pass.new }
         ensures number { number_of pass.new ≡ number_of pass.old }
+        ensures now { pass.new.now ≡ pass.old.now }
         ensures course { Answered (writer_of pass.old) (writer_of pass.new)
             (send_course (layout_at self.now) dest.now src.now batch) result }
     {
@@ -142,6 +146,7 @@ impl SiteOf<SiteCell> {
         requires { IsPassAt self.now pass.old }
         ensures own { IsPassAt self.now pass.new }
         ensures number { number_of pass.new ≡ number_of pass.old }
+        ensures now { pass.new.now ≡ pass.old.now }
         ensures course { Completed (writer_of pass.old) (writer_of pass.new)
             (topic_state_course self.now.names key.now) result }
     {
@@ -166,6 +171,7 @@ impl SiteOf<SiteCell> {
         requires readable { IsReadable binding.q }
         ensures own { IsPassAt self.now pass.new }
         ensures number { number_of pass.new ≡ number_of pass.old }
+        ensures now { pass.new.now ≡ pass.old.now }
         ensures course { Answered (writer_of pass.old) (writer_of pass.new)
             (bind_course self.now.names key.now binding) result }
     {
@@ -189,6 +195,7 @@ impl SiteOf<SiteCell> {
             (histories_in self.now.names (writer_of pass.old).seen) key.now upto }
         ensures own { IsPassAt self.now pass.new }
         ensures number { number_of pass.new ≡ number_of pass.old }
+        ensures now { pass.new.now ≡ pass.old.now }
         ensures course { Answered (writer_of pass.old) (writer_of pass.new)
             (store_course self.now.names key.now upto) result }
     {

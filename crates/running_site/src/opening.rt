@@ -23,7 +23,7 @@ const CELLS: usize = 0x4000_0000;
 
 impl SiteOf<SiteCell> {
     /// The site of these collections with no entry, and a limit on the counted bytes of each shard;
-    /// and so many passes, with the numbers from 1 on.
+    /// and so many passes, with the numbers from 1 on, at the time 0.
     pub fn start(
         alloc: Global,
         names: Names,
@@ -37,6 +37,7 @@ impl SiteOf<SiteCell> {
         ensures own { IfOk result (λ made. All (IsPassAt made.0) made.1) }
         ensures new { IfOk result (λ made. map writer_of made.1
             ≡ map (new_writer names) (numbers_to passes)) }
+        ensures now { IfOk result (λ made. All (λ pass. pass.now ≡ 0) made.1) }
     {
         let cells = empty_cells(alloc, &names, limit)?;
         if cells.len() >= CELLS {

@@ -11,7 +11,8 @@ use std::alloc::Global;
 use std::mem::replace;
 use tuple_values::Sequence;
 
-/// A pass of a table with its record. Between two calls of its site it has no turn.
+/// A pass of a table with its record, and the time at which it works, in milliseconds. Between two
+/// calls of its site it has no turn.
 #[derive(Drop)]
 pub struct PassOf<P> {
     pub(crate) alloc: Global,
@@ -19,6 +20,7 @@ pub struct PassOf<P> {
     pub(crate) pass: Option<P>,
     pub(crate) marks: Vec<CutMark>,
     pub(crate) own: Vec<OwnMark>,
+    pub(crate) now: u64,
 }
 
 pub(crate) type TablePass = turn_table::Pass<SiteCell, CellAbout, LogEntry>;
@@ -30,6 +32,13 @@ pub type Pass = PassOf<TablePass>;
 pub type Passes = Sequence<Pass>;
 
 impl PassOf<TablePass> {
+    /// The time at which the pass works: 0, and nothing reads it yet.
+    pub fn now(&self) -> u64
+        ensures { result ≡ self.entry.now.now }
+    {
+        self.now
+    }
+
     /// The looks and steps since the last such call, those of refused calls too. The record begins
     /// anew. Takes no memory.
     pub fn take_record(&mut self) -> Record
@@ -39,6 +48,7 @@ impl PassOf<TablePass> {
         ensures pass { self.new.pass ≡ self.old.pass }
         ensures sight { sight_of self.new ≡ sight_of self.old }
         ensures number { number_of self.new ≡ number_of self.old }
+        ensures now { self.new.now ≡ self.old.now }
     {
         let marks = replace(&mut self.marks, Vec::new(self.alloc));
         let own = replace(&mut self.own, Vec::new(self.alloc));

@@ -7,7 +7,7 @@ use crate::{Pass, PassOf, Passes};
 use std::alloc::Global;
 use tuple_values::{Memory, Sequence};
 
-/// The pass with an empty record.
+/// The pass with an empty record, at the time 0.
 fn with_record(alloc: Global, pass: TablePass) -> Pass
     ensures { content result ≡ recorded pass }
 {
@@ -16,10 +16,11 @@ fn with_record(alloc: Global, pass: TablePass) -> Pass
         pass: Some(pass),
         marks: Vec::new(alloc),
         own: Vec::new(alloc),
+        now: 0,
     }
 }
 
-/// Each pass with an empty record.
+/// Each pass with an empty record, at the time 0.
 pub(crate) fn with_records(alloc: Global, passes: Sequence<TablePass>) -> Result<Passes, Memory>
     ensures { IfOk result (λ made. map content made ≡ map recorded passes) }
 {
@@ -51,6 +52,7 @@ pub(crate) fn without_records(alloc: Global, passes: Passes) -> Result<Sequence<
             pass,
             marks,
             own,
+            now: _,
         } = one;
         drop(marks);
         drop(own);

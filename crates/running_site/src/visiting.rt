@@ -19,6 +19,7 @@ impl SiteOf<SiteCell> {
         ensures writer { writer_in (known result.pass) result.marks.items result.own.items
             ≡ writer_of pass.old }
         ensures sight { sight_in (known result.pass) ≡ sight_of pass.old }
+        ensures now { pass.new.now ≡ pass.old.now }
     {
         let alloc = pass.alloc;
         let Some(inside) = pass.pass.take() else {
@@ -47,6 +48,7 @@ impl<R> Visit<'_, R> {
         ensures writer { writer_of pass.new ≡ writer_in (known self.entry.pass)
             self.entry.marks.items self.entry.own.items }
         ensures sight { sight_of pass.new ≡ sight_in (known self.entry.pass) }
+        ensures now { pass.new.now ≡ pass.old.now }
     {
         let Visit {
             rt: _,

@@ -5,11 +5,12 @@ use Rattle.exchange_rules.specs.Cells.{author_of}
 use Rattle.turn_table.specs.Calls.{table_of}
 use Rattle.site_cells.specs.Values.{about_in, log_of_cell}
 use Rattle.running_site.specs.Passes.{layout_in, new_writer, IsPassOf, TablePass}
+use Rattle.running_site.specs.declared.pass.PassOf.{PassOf}
 use Rattle.running_site.proofs.CloseLemmas.{all-of}
 use Rattle.running_site.proofs.KnownLemmas.{each_of}
 use Rattle.running_site.proofs.NumberLemmas.{numbers-differ}
 use Rattle.running_site.proofs.SignedLemmas.{all-listed}
-use Rattle.running_site.proofs.StartLemmas.{fresh-new, fresh-own, start-lawful, start-long, start-new}
+use Rattle.running_site.proofs.StartLemmas.{fresh-new, fresh-now, fresh-own, start-lawful, start-long, start-new}
 use Rattle.running_site.proofs.opening.SiteOf+SiteCell.start.Goals as goal
 
 pub start-requires-clause-few : goal.start-requires-clause-few
@@ -66,3 +67,8 @@ returns-clause-new c =
     (start-long c.args.names c.in_ok-cells.cells c.in_ok-cells.ensures.empty)
     c.in_ok-made.ensures c.in_ok-table.ensures.passes
     ∙ ap (map (new_writer c.args.names)) c.in_ok-numbers.ensures
+
+pub returns-clause-now : goal.returns-clause-now
+returns-clause-now c =
+    all-of (λ (p : PassOf TablePass). p.now ≡ 0) c.in_ok-made.made
+    (fresh-now c.in_ok-table.inside c.in_ok-made.made c.in_ok-made.ensures)
