@@ -13,3 +13,4 @@ pub mod CloseLemmas
 pub mod StartLemmas
 pub mod MomentLemmas
 pub mod AloneLemmas
+pub mod WatchLemmas

@@ -3,7 +3,7 @@ use Rattle.std.specs.Prelude.{ℕ, ◌+◌, ◌*◌, ◌≡◌, ◌≢◌, ◌�
 use Rattle.atomic_table.specs.Table.{Me, State, Step, rest}
 use Rattle.turn_table.specs.declared.knowledge.Known.{Known}
 use Rattle.turn_table.specs.declared.knowledge.View.{View}
-use Rattle.turn_table.specs.Histories.{at, Adds, ArePrefixes}
+use Rattle.turn_table.specs.Histories.{at, Adds, ArePrefixes, GrewBy}
 use Rattle.turn_table.specs.Knowledge.{asof, gave, hand, lone, looked, missed, sealed, took}
 use Rattle.turn_table.specs.Rule.{Kept}
 
@@ -43,6 +43,18 @@ module _ {C A E : Type 0} (about : C → A) (history : C → List E) (writer : E
         → tells k.about other (asof k other) kept.histories
     pub since : (other : ℕ) → 0 < slice_index k.looks other
         → ArePrefixes (asof k other) k.seen
+
+  -- a moment of the pass's table: its histories meet the law, what the pass has seen begins them, and
+  -- what follows is by other passes
+  pub record Watched (k : Known A E) : Type 0 where
+    pub state : State (Option C) (View A E)
+    pub kept : IsKeptFor k state
+    pub seen : GrewBy (λ entry. writer entry ≢ k.number) k.seen kept.histories
+
+  -- nothing changes
+  abbrev pub Watches : Step (Option C) → Me (Option C) (View A E) → ℕ → Me (Option C) (View A E)
+      → Type 0
+  Watches st me found after = (k : Known A E) → me.0 ≡ lone k → (after ≡ me) × Watched k
 
   -- a try found the turn word 0, and took the turn with the value; or it found 1
   abbrev pub Tries : Step (Option C) → Me (Option C) (View A E) → ℕ → Me (Option C) (View A E)

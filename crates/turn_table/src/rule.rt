@@ -84,6 +84,17 @@ impl<C: CellState> Play<Option<C>, View<C::About, C::Entry>> for Look<C> {
     ghost then = { Sees C.about C.history C.writer C.law C.tells };
 }
 
+// A moment at which nothing changes.
+pub(crate) struct Watch<C> {
+    cell: PhantomData<C>,
+}
+
+impl<C: CellState> Play<Option<C>, View<C::About, C::Entry>> for Watch<C> {
+    ghost use Rattle.turn_table.specs.Steps.{Watches};
+
+    ghost then = { Watches C.about C.history C.writer C.law C.tells };
+}
+
 // A seal, with the turn held.
 pub(crate) struct Seal<C> {
     cell: PhantomData<C>,

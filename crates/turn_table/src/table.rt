@@ -3,11 +3,11 @@ ghost use Rattle.std.specs.Prelude.{◌≡◌, ◌≢◌, ◌+◌, ◌*◌, ◌^
 ghost use Rattle.turn_table.specs.Calls.{known, table_of, turn_about, turn_history};
 ghost use Rattle.turn_table.specs.Histories.{at, GrewBy};
 ghost use Rattle.turn_table.specs.Knowledge.{fresh, gave, hand, looked, missed, sealed, took, waited, IsFree};
-ghost use Rattle.turn_table.specs.Steps.{AddsOthers, Glimpse, WasTaken};
+ghost use Rattle.turn_table.specs.Steps.{AddsOthers, Glimpse, WasTaken, Watched};
 
 use crate::deals::{deal, gather, lay, unload};
 use crate::knowledge::View;
-use crate::rule::{Give, Look, Opening, Seal, Try, Turns};
+use crate::rule::{Give, Look, Opening, Seal, Try, Turns, Watch};
 use crate::{CellState, Pass, Passes, Turn};
 use atomic_table::Table;
 use std::alloc::Global;
@@ -150,6 +150,17 @@ impl<C: CellState> TurnTable<C> {
         self.board
             .shared
             .load::<Look<C>>(&mut pass.seat, 2 * place + 2);
+    }
+
+    /// Shows a pass one moment of the table, at which the law holds of all histories. It sees no
+    /// entry, and knows what it knew.
+    pub fn watch(&self, pass: &mut Pass<C, C::About, C::Entry>)
+        requires { table_of pass.old ≡ self.now.board.shared.table_id }
+        ensures own { table_of pass.new ≡ table_of pass.old }
+        ensures known { known pass.new ≡ known pass.old }
+        ensures watched { Watched C.about C.history C.writer C.law C.tells (known pass.old) }
+    {
+        self.board.shared.load::<Watch<C>>(&mut pass.seat, 0);
     }
 
     /// Appends the entries of a sealing that has room, after a look in this turn.
