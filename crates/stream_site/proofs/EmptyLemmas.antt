@@ -1,15 +1,13 @@
 -- Shards of no entry.
 use Rattle.std.proofs.Common.{◌≡◌, ℕ, zero, suc, ◌+◌, ◌<◌, ◌≤◌, List, [], ◌∷◌, ◌++◌, length, map, drop, get_or, refl, sym, ap, ◌∙◌, subst, arith}
 use Rattle.std.specs.Prelude.{replicate}
-use Rattle.std.specs.List.{AllByRecursion}
 use Rattle.std.proofs.lemmas.List.{map-append, length-map, length-replicate, drop_all}
 use Rattle.tuple_values.specs.declared.names.NameShards.{NameShards}
 use Rattle.shard_versions.specs.Histories.{History}
 use Rattle.shard_versions.specs.Shards.{Shard}
 use Rattle.shard_versions.proofs.ListLemmas.{each_append}
 use Rattle.topic_book.specs.Cells.{cells_in}
-use Rattle.exchange_rules.specs.Steps.{AreBy}
-use Rattle.stream_site.specs.Plains.{AreEmpty}
+use Rattle.stream_site.specs.Logs.{AreEmpty}
 use Rattle.stream_site.proofs.PlaceLemmas.{cells_here}
 
 -- one more copy at the end
@@ -61,14 +59,3 @@ empty_all limit names i shards le e a =
     let none : cells_in (drop i names) ≡ 0 = ap cells_in (drop_all i names le) in
     let all : length shards ≡ cells_in names = omega (arith, e, none) in
     subst (λ k. AreEmpty limit k shards) all a
-
--- nobody wrote anything
-pub empty_own : (n : ℕ) (shards : List Shard)
-    → map (λ (s : Shard). s.entries) shards ≡ replicate n []
-    → AllByRecursion (λ (s : Shard). AreBy 1 s.entries) shards
-empty_own n [] e = tt
-empty_own zero (x ∷ shards) e = absurd (cc)
-empty_own (suc n) (x ∷ shards) e =
-    let here : x.entries ≡ [] = cc in
-    let rest : map (λ (s : Shard). s.entries) shards ≡ replicate n [] = cc in
-    (subst (AreBy 1) (sym here) tt, empty_own n shards rest)

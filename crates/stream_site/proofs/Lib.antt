@@ -8,15 +8,10 @@ pub mod TakenLemmas
 pub mod UpdateLemmas
 pub mod CutLemmas
 pub mod EmptyLemmas
-pub mod PlainLemmas
-pub mod PlainLookLemmas
-pub mod PlainBookLemmas
-pub mod PlainOwnLemmas
-pub mod PlainLawLemmas
+pub mod ShardLemmas
 pub mod WriteLemmas
 pub mod MayLemmas
 pub mod SendLemmas
 pub mod AdmitLemmas
 pub mod TopicLemmas
-pub mod DeliverLemmas
 pub mod FitLemmas

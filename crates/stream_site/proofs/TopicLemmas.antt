@@ -1,17 +1,12 @@
 -- Topics of a site, and what is done at its book.
 use Rattle.std.proofs.Common.{◌≡◌, ℕ, ◌<◌, true, false, List, [], ◌∷◌, ◌++◌, length, get_or, refl, sym, ap, ◌∙◌, subst, if◌then◌else◌}
 use Rattle.std.proofs.lemmas.List.{get_or-set_same}
-use Rattle.std.specs.Prelude.{Option, Some, None, Result, Ok, Err}
-use Rattle.std.specs.List.{AllByRecursion}
+use Rattle.std.specs.Prelude.{Option, None, Result, Ok, Err}
 use Rattle.query_syntax.specs.Meaning.{IsReadable}
-use Rattle.tuple_values.specs.Document.{ByteList}
 use Rattle.tuple_values.specs.declared.names.NameShards.{NameShards}
-use Rattle.shard_versions.specs.Histories.{top}
-use Rattle.shard_versions.specs.Shards.{Shard, Shown}
 use Rattle.topic_book.specs.Alike.{is_alike}
 use Rattle.topic_book.specs.Books.{Book, binding_of, checkpoints, raises, topics_in}
-use Rattle.topic_book.specs.Cells.{cells_in}
-use Rattle.topic_book.specs.Fitness.{shards_of, IsFitEntry, IsOfTopic, IsOnCollections, MayFollow}
+use Rattle.topic_book.specs.Fitness.{IsFitEntry, IsOnCollections}
 use Rattle.topic_book.specs.States.{IsCauseOf, IsOpen, IsOpenTo}
 use Rattle.topic_book.specs.declared.fault.BookFault.{BookFault}
 use Rattle.topic_book.specs.declared.fault.BookFault.TheVariants as fault
@@ -20,16 +15,13 @@ use Rattle.topic_book.specs.declared.topic.Binding.{Binding}
 use Rattle.topic_book.specs.declared.topic.BookEntry.{BookEntry}
 use Rattle.topic_book.specs.declared.topic.BookEntry.TheVariants as book
 use Rattle.once_core.specs.Allowed.{MayStore}
-use Rattle.once_core.specs.Cells.{cell_of, shard_history}
-use Rattle.once_core.specs.declared.world.Histories.{Histories}
-use Rattle.once_core.proofs.KeepingLemmas.{counted_init}
 use Rattle.exchange_rules.specs.Bindings.{bind_again, bind_new, bind_seen, book_cell, book_seen, bound_checkpoint, checkpoint_in, store_seen, topic_state_course}
 use Rattle.exchange_rules.specs.Calls.{Answered, IsStopped, Passed, Refused, HasAppended}
-use Rattle.exchange_rules.specs.Cells.{Log, author_of, bind, book_in, payload_of, signed, store, history_in}
+use Rattle.exchange_rules.specs.Cells.{Log, bind, book_in, payload_of, signed, store}
 use Rattle.exchange_rules.specs.Courses.{Course, ends, looks}
 use Rattle.exchange_rules.specs.Following.{Writer}
 use Rattle.exchange_rules.specs.Primitives.{LooksAt, made}
-use Rattle.exchange_rules.specs.Rows.{Layout, shown_of}
+use Rattle.exchange_rules.specs.Rows.{Layout}
 use Rattle.exchange_rules.specs.declared.fault.SiteFault.{SiteFault}
 use Rattle.exchange_rules.specs.declared.fault.SiteFault.TheVariants.{TopicBound, BookFull}
 use Rattle.exchange_rules.specs.declared.log_entry.LogEntry.TheVariants as logged
@@ -39,76 +31,16 @@ use Rattle.exchange_rules.proofs.AppendedLemmas.{answered_of, appended_none, sto
 use Rattle.exchange_rules.proofs.StepLemmas.{look_begun, look_passed, nothing_done}
 use Rattle.site_laws.specs.Duties.{MayAppendEntry}
 use Rattle.site_laws.specs.SiteCells.{histories_in}
-use Rattle.exchange_rules.proofs.CellLemmas.{cell_of-within}
-use Rattle.site_laws.proofs.CellLemmas.{book-append, shard-at}
+use Rattle.site_laws.proofs.CellLemmas.{book-append}
 use Rattle.site_laws.proofs.DutyLemmas.{store-looked}
-use Rattle.stream_site.specs.Plains.{Plain, writer_of}
 use Rattle.stream_site.specs.Topics.{fault_of}
 use Rattle.stream_site.proofs.MayLemmas.{cell_after}
-use Rattle.stream_site.proofs.PlainLemmas.{histories_of}
-use Rattle.stream_site.proofs.PlainBookLemmas.{plain_book}
 
--- versions that may be stored are of a topic, with one for each shard of its source
-pub of_topic : (names : List NameShards) (hs : Histories) (b : Book) (key : TopicKey)
-    (upto : List ℕ) → MayStore names hs key upto → hs.book ≡ b
-    → AllByRecursion (IsFitEntry names) b → IsOfTopic (binding_of key b) upto
-of_topic names hs b key upto m e fit =
-    let bound : binding_of key b ≡ Some m.binding = ap (binding_of key) (sym e) ∙ m.bound in
-    subst (λ o. IsOfTopic o upto) (sym bound)
-    (m.counted ∙ sym (counted_init names b key m.binding fit bound))
-
--- the same of a site of one writer
-pub plain_topic : (shards : List Shard) (s p : Plain) → s ≡ p → histories_of shards ≡ s.shards
-    → length shards ≡ cells_in s.names → AllByRecursion (IsFitEntry s.names) s.book
-    → (key : TopicKey) (upto : List ℕ)
-    → MayStore p.names (histories_in p.names (writer_of p).seen) key upto
-    → IsOfTopic (binding_of key s.book) upto
-plain_topic shards s p view e counted fit key upto m =
-    let here = plain_book shards s p view e counted in
-    let fit' = subst (λ (x : Plain). AllByRecursion (IsFitEntry x.names) s.book) view fit in
-    of_topic p.names (histories_in p.names (writer_of p).seen) s.book key upto m here fit'
-
--- an entry that may be added to the book may follow there
-pub entry_follows : (names : List NameShards) (seen : List Log) (b : Book) (me : ℕ) (e : BookEntry)
-    → (histories_in names seen).book ≡ b → AllByRecursion (IsFitEntry names) b
-    → MayAppendEntry names me seen e → MayFollow b e
-entry_follows names seen b me (book.Bind by key c) same fit may =
-    subst (λ x. binding_of key x ≡ None) same may.1.follows
-entry_follows names seen b me (book.Store by key upto) same fit may =
-    of_topic names (histories_in names seen) b key upto may.1.0 same fit
-
--- it is the writer's
-entry_by : (names : List NameShards) (seen : List Log) (me : ℕ) (e : BookEntry)
-    → MayAppendEntry names me seen e → author_of (logged.Book e) ≡ me
-entry_by names seen me (book.Bind by key c) may = may.0
-entry_by names seen me (book.Store by key upto) may = may.0
-
--- and on known collections
+-- an entry that may be added to the book is on known collections
 pub entry_fit : (names : List NameShards) (seen : List Log) (me : ℕ) (e : BookEntry)
     → MayAppendEntry names me seen e → IsFitEntry names e
 entry_fit names seen me (book.Bind by key c) may = may.1.fit
 entry_fit names seen me (book.Store by key upto) may = tt
-
--- what is known of an entry that a writer that is alone may add
-pub record IsAppendable (s : Plain) (e : BookEntry) : Type 0 where
-  pub follows : MayFollow s.book e
-  pub own : author_of (logged.Book e) ≡ 1
-  pub fit : IsFitEntry s.names e
-
--- by what may be added
-pub plain_appendable : (shards : List Shard) (s p : Plain) → s ≡ p → histories_of shards ≡ s.shards
-    → length shards ≡ cells_in s.names → AllByRecursion (IsFitEntry s.names) s.book
-    → (e : BookEntry) → MayAppendEntry p.names 1 (writer_of p).seen e → IsAppendable s e
-plain_appendable shards s p view e counted fit entry may =
-    let here = plain_book shards s p view e counted in
-    let names : s.names ≡ p.names = ap (λ (x : Plain). x.names) view in
-    record {
-      follows = entry_follows p.names (writer_of p).seen s.book 1 entry here
-          (subst (λ n. AllByRecursion (IsFitEntry n) s.book) names fit) may;
-      own = entry_by p.names (writer_of p).seen 1 entry may;
-      fit = subst (λ n. IsFitEntry n entry) (sym names)
-          (entry_fit p.names (writer_of p).seen 1 entry may);
-    }
 
 -- why a Bind of a topic that isn't bound was refused
 pub bind_new_refused : (w new : Writer) (names : List NameShards) (by : ℕ) (key : TopicKey)
@@ -303,14 +235,3 @@ pub stored_appended : (old new : Writer) (names : List NameShards) (by : ℕ) (k
 stored_appended old new names by key copy upto seen up lt same done =
     store_appended old new names key upto seen up lt
     (done ∙ ap (λ k. made old (book_cell names) (store k upto ∷ [])) same)
-
--- the top that a look at a shard showed is that of the shard's history
-pub top_shown : (names : List NameShards) (logs : List Log) (src : ByteList) (shard cell : ℕ)
-    (s : Shown) → shard < shards_of names src → cell ≡ cell_of names src shard
-    → s ≡ shown_of (history_in (get_or logs cell []))
-    → s.top ≡ top (shard_history names (histories_in names logs) src shard)
-top_shown names logs src shard cell s lt at is =
-    ap (λ (x : Shown). x.top) is
-    ∙ ap top (ap (λ c. history_in (get_or logs c [])) at
-    ∙ sym (shard-at (cells_in names) logs (cell_of names src shard)
-    (cell_of-within names src shard lt)))

@@ -1,7 +1,6 @@
 pub mod Shares
-pub mod Plains
-pub mod Sites
+pub mod Logs
 pub mod Topics
 pub mod Spots
-pub mod Stores
 pub mod Rooms
+pub mod Lone

@@ -1,7 +1,7 @@
 // Shards of no entry.
-ghost use Rattle.std.specs.Prelude.{ℕ, ◌≡◌, ◌≤◌, ◌+◌, [], IfOk, OnOk, replicate};
+ghost use Rattle.std.specs.Prelude.{ℕ, ◌≤◌, ◌+◌, IfOk, OnOk};
 ghost use Rattle.topic_book.specs.Cells.{cells_in};
-ghost use Rattle.stream_site.specs.Plains.{AreEmpty};
+ghost use Rattle.stream_site.specs.Logs.{AreEmpty};
 
 use shard_versions::ShardState;
 use std::alloc::Global;
@@ -37,15 +37,4 @@ fn add_empty(
         shards.push(ShardState::empty(alloc, limit))?;
     }
     Ok(())
-}
-
-/// So many zeros.
-pub(crate) fn zeros(alloc: Global, count: usize) -> Result<Vec<u64>, Memory>
-    ensures { IfOk result (λ counts. counts.items ≡ replicate count 0) }
-{
-    let mut counts = Vec::new(alloc);
-    for _ in 0..count {
-        counts.push(0)?;
-    }
-    Ok(counts)
 }

@@ -1,13 +1,11 @@
-//! The calls of a site, written over looks and seals, and a site of one writer in memory.
+//! The calls of a site, written over looks and seals.
 #![tactic(auto)]
 
 mod cut;
 mod delivery;
-mod duties;
 mod empty;
 mod index;
 mod place;
-mod plain;
 mod routing;
 mod send;
 mod step;
@@ -17,12 +15,10 @@ mod writes;
 
 pub use cut::take_cut_over;
 pub use delivery::admitted;
-pub use duties::may_store_nowhere;
 pub use empty::empty_shards;
 pub use exchange_rules::{Batch, BatchItem, LogEntry, Sent, SiteFault};
 pub use index::{commit_all_over, index_over};
 pub use place::shards_of;
-pub use plain::PlainSite;
 pub use send::send_over;
 pub use shard_versions::{Cut, CutMark, CutMarks, CutPart, OwnMark, OwnMarks, Record};
 pub use step::close;

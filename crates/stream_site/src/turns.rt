@@ -23,12 +23,16 @@ pub trait Turns {
     ghost use Rattle.exchange_rules.specs.Steps.{is_full, is_over, kinds_of};
     ghost use Rattle.site_laws.specs.Duties.{MayDeliver, MayAppendEntry, MayWrite};
     ghost use Rattle.site_laws.specs.SiteCells.{histories_in};
+    ghost use Rattle.stream_site.specs.Lone.{IsAllOwn};
     ghost use Rattle.stream_site.specs.Rooms.{MayWant};
 
     /// Where the writer is: it stays there.
     type Home;
 
     ghost home: { Self → Self.Home };
+
+    /// No other writer is there.
+    ghost lone: { Self.Home → Type 0 };
 
     /// What the writer has seen, and its record.
     ghost writer: { Self → Writer };
@@ -61,6 +65,17 @@ pub trait Turns {
     /// The writer's number, which its entries carry.
     fn number(&self) -> u64
         ensures { result ≡ (writer self.now).me };
+
+    /// Shows the writer a moment of its site, and nothing of what is there. Where no other writer is,
+    /// all that it has seen is its own and meets the law of all histories, so by `delivery_holds`
+    /// each topic delivers once.
+    fn watch(&mut self)
+        ensures alone { lone (home self.old)
+            → IsAllOwn (layout self.old).names (writer self.old) }
+        ensures writer { writer self.new ≡ writer self.old }
+        ensures free { free self.old → free self.new }
+        ensures layout { layout self.new ≡ layout self.old }
+        ensures home { home self.new ≡ home self.old };
 
     /// Makes room in the record for so many looks, so that none of them wants memory while the
     /// writer has a turn. There is no less room than before, after an `Err` too. A writer that has

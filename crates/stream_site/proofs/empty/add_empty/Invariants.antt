@@ -1,6 +1,6 @@
 -- So many more shards are empty.
 use Rattle.std.proofs.Common.{ℕ, ◌+◌}
-use Rattle.stream_site.specs.Plains.{AreEmpty}
+use Rattle.stream_site.specs.Logs.{AreEmpty}
 use Rattle.stream_site.proofs.empty.add_empty.Given as goal
 
 abbrev pub invariant-loop : goal.invariant-loop

@@ -1,5 +1,5 @@
 use Rattle.std.proofs.Common.{length, refl, sym, subst}
-use Rattle.stream_site.specs.Plains.{AreEmpty}
+use Rattle.stream_site.specs.Logs.{AreEmpty}
 use Rattle.stream_site.proofs.EmptyLemmas.{empty_long, empty_more, empty_all}
 use Rattle.stream_site.proofs.empty.empty_shards.Goals as goal
 

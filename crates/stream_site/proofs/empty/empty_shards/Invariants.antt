@@ -1,7 +1,7 @@
 -- The shards of the collections so far are there.
 use Rattle.std.proofs.Common.{◌≡◌, ◌+◌, drop, length}
 use Rattle.topic_book.specs.Cells.{cells_in}
-use Rattle.stream_site.specs.Plains.{AreEmpty}
+use Rattle.stream_site.specs.Logs.{AreEmpty}
 use Rattle.stream_site.proofs.empty.empty_shards.Given as goal
 
 abbrev pub invariant-loop-entry : goal.invariant-loop-entry

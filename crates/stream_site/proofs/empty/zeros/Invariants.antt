@@ -1,7 +1,0 @@
--- So many zeros.
-use Rattle.std.proofs.Common.{◌≡◌}
-use Rattle.std.specs.Prelude.{replicate}
-use Rattle.stream_site.proofs.empty.zeros.Given as goal
-
-abbrev pub invariant-loop : goal.invariant-loop
-invariant-loop l = l.counts.items ≡ replicate l.counter 0
