@@ -9,7 +9,7 @@ use Rattle.running_site.specs.Alone.{IsLawOfOnePass}
 use Rattle.running_site.specs.Passes.{writer_where, IsListed}
 
 -- a list of one number has no other
-only-one : (n m : ℕ) → IsListed (n ∷ []) m → m ≡ n
+pub only-one : (n m : ℕ) → IsListed (n ∷ []) m → m ≡ n
 only-one n m listed = elim (cases_eq m n) [
   | inl same ↦ same
   | inr apart ↦ absurd (listed (All-cons (λ k. k ≢ m) n [] (λ e. apart (sym e)) (All-nil (λ k. k ≢ m))))

@@ -15,7 +15,7 @@ use Rattle.site_laws.specs.Sealings.{names_told}
 use Rattle.site_laws.specs.SiteCells.{histories_in, shards_in, IsLawful}
 use Rattle.site_laws.specs.declared.cell_about.CellAbout.{CellAbout}
 use Rattle.site_laws.proofs.CellLemmas.{shard-count}
-use Rattle.stream_site.specs.Plains.{logs_in}
+use Rattle.stream_site.specs.Logs.{logs_in}
 use Rattle.turn_table.specs.Calls.{known, table_of}
 use Rattle.turn_table.specs.Histories.{GrewBy}
 use Rattle.turn_table.specs.Knowledge.{IsFree}

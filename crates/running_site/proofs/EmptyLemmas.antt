@@ -7,7 +7,7 @@ use Rattle.shard_versions.specs.Shards.{Shard}
 use Rattle.topic_book.specs.Cells.{cells_in}
 use Rattle.exchange_rules.specs.Cells.{Log, log_of}
 use Rattle.site_laws.specs.declared.cell_about.CellAbout.{CellAbout}
-use Rattle.stream_site.specs.Plains.{AreEmpty}
+use Rattle.stream_site.specs.Logs.{AreEmpty}
 use Rattle.site_cells.specs.Cells.{abouts_of, no_logs}
 use Rattle.site_cells.specs.Values.{about_book, about_in, about_shard, log_of_cell}
 use Rattle.site_cells.specs.declared.site_cell.SiteCell.{SiteCell}

@@ -18,3 +18,4 @@ pub mod EndLemmas
 pub mod FitLemmas
 pub mod SignedLemmas
 pub mod AloneLemmas
+pub mod LoneLemmas

@@ -19,7 +19,7 @@ use Rattle.site_laws.specs.declared.cell_about.CellAbout.{CellAbout}
 use Rattle.site_laws.specs.declared.sealing.Sealing.{Sealing}
 use Rattle.site_laws.specs.declared.sealing.Sealing.TheVariants as sealing
 use Rattle.site_laws.proofs.WriteLemmas.{fit-storable}
-use Rattle.stream_site.proofs.PlainLemmas.{full_is}
+use Rattle.stream_site.proofs.ShardLemmas.{full_is}
 use Rattle.turn_table.specs.Calls as turns
 use Rattle.turn_table.specs.Histories.{at}
 use Rattle.turn_table.specs.declared.knowledge.Known.{Known}

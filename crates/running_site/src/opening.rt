@@ -4,14 +4,14 @@ ghost use Rattle.topic_book.specs.Cells.{cells_in};
 ghost use Rattle.once_core.specs.Law.{IsLaw};
 ghost use Rattle.exchange_rules.specs.Cells.{author_of};
 ghost use Rattle.turn_table.specs.Histories.{GrewBy};
-ghost use Rattle.stream_site.specs.Plains.{logs_in};
+ghost use Rattle.stream_site.specs.Logs.{logs_in};
 ghost use Rattle.running_site.specs.Passes.{new_writer, number_of, numbers_to, writer_of};
 ghost use Rattle.running_site.specs.Sites.{IsPassAt};
 
 use crate::empty::empty_cells;
 use crate::numbers::numbers_to;
 use crate::record::{with_records, without_records};
-use crate::{Passes, Site, SiteOf};
+use crate::{Pass, Passes, Site, SiteOf};
 use once_core::Histories;
 use site_cells::{SiteCell, into_histories};
 use std::alloc::Global;
@@ -53,6 +53,21 @@ impl SiteOf<SiteCell> {
             passes,
         };
         Ok((site, made))
+    }
+
+    /// The site of these collections with no entry, and its only pass, which is new.
+    pub fn start_alone(alloc: Global, names: Names, limit: u64) -> Result<(Site, Pass), Memory>
+        requires { limit ≤ 268435456 }
+        ensures site { IfOk result (λ made. (made.0.names ≡ names) × (made.0.limit ≡ limit)
+            × (made.0.passes ≡ 1)) }
+        ensures own { IfOk result (λ made. IsPassAt made.0 made.1) }
+        ensures new { IfOk result (λ made. writer_of made.1 ≡ new_writer names 1) }
+        ensures now { IfOk result (λ made. made.1.now ≡ 0) }
+    {
+        let (site, passes) = SiteOf::start(alloc, names, 1, limit)?;
+        let mut passes = passes.into_vec();
+        let pass = passes.pop().unwrap();
+        Ok((site, pass))
     }
 
     /// Ends the site, and gives its histories. It takes all passes that were made for it.

@@ -32,11 +32,20 @@ pub type Pass = PassOf<TablePass>;
 pub type Passes = Sequence<Pass>;
 
 impl PassOf<TablePass> {
-    /// The time at which the pass works: 0, and nothing reads it yet.
+    /// The time at which the pass works, in milliseconds. Nothing reads it yet.
     pub fn now(&self) -> u64
         ensures { result ≡ self.entry.now.now }
     {
         self.now
+    }
+
+    /// The pass works at this time from now on. Takes no memory.
+    pub fn set_now(&mut self, now: u64)
+        ensures now { self.new.now ≡ now }
+        ensures pass { self.new.pass ≡ self.old.pass }
+        ensures writer { writer_of self.new ≡ writer_of self.old }
+    {
+        self.now = now;
     }
 
     /// The looks and steps since the last such call, those of refused calls too. The record begins

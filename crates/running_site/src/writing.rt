@@ -162,6 +162,8 @@ impl<R: Wait> Turns for Visit<'_, R> {
 
     ghost home = { λ v. v.site.now };
 
+    ghost lone = { λ s. s.passes ≡ 1 };
+
     ghost writer = { λ v. writer_in (known v.pass) v.marks.items v.own.items };
 
     ghost layout = { λ v. layout_in v.site.now.names v.site.now.limit };
@@ -205,6 +207,10 @@ impl<R: Wait> Turns for Visit<'_, R> {
             Some(turn) => self.site.table.give(&mut self.pass, turn),
             None => {}
         }
+    }
+
+    fn watch(&mut self) {
+        self.site.table.watch(&mut self.pass);
     }
 
     fn is_pending(&self, cell: u32) -> bool {

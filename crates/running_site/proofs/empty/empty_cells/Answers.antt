@@ -4,7 +4,7 @@ use Rattle.std.proofs.lemmas.Iterator.Consumers.{YieldsList-end}
 use Rattle.std.proofs.lemmas.List.{map-id}
 use Rattle.exchange_rules.specs.Cells.{log_of_book}
 use Rattle.topic_book.specs.Cells.{cells_in}
-use Rattle.stream_site.specs.Plains.{AreEmpty}
+use Rattle.stream_site.specs.Logs.{AreEmpty}
 use Rattle.site_cells.specs.Values.{about_in, log_of_cell}
 use Rattle.running_site.proofs.EmptyLemmas.{cells-empty}
 use Rattle.running_site.proofs.empty.empty_cells.Goals as goal

@@ -7,7 +7,7 @@ use Rattle.once_core.specs.Law.{IsLaw}
 use Rattle.once_core.specs.declared.world.Histories.{Histories}
 use Rattle.exchange_rules.specs.Cells.{Log, author_of}
 use Rattle.site_laws.specs.SiteCells.{histories_in}
-use Rattle.stream_site.specs.Plains.{logs_in}
+use Rattle.stream_site.specs.Logs.{logs_in}
 use Rattle.turn_table.specs.Calls.{known, table_of}
 use Rattle.turn_table.specs.Histories.{GrewBy}
 use Rattle.turn_table.specs.Knowledge.{IsFree}

@@ -1,5 +1,5 @@
 use Rattle.std.proofs.Common.{sym}
-use Rattle.stream_site.proofs.PlainLemmas.{shown_ok}
+use Rattle.stream_site.proofs.ShardLemmas.{shown_ok}
 use Rattle.running_site.proofs.writing.VisitTurns.snapshot.Goals as goal
 
 pub returns : goal.returns
