@@ -25,8 +25,8 @@ pub(crate) struct Once {
 /// Runs the input of an expression once. The site's record begins anew. The writer has no turn
 /// afterwards.
 pub(crate) fn run_once<T: Turns, R: Threads + Sync, G: Gate>(
-    alloc: Global,
     rt: &R,
+    alloc: Global,
     site: &mut T,
     checked: &Checked,
     gate: &G,
@@ -45,7 +45,7 @@ pub(crate) fn run_once<T: Turns, R: Threads + Sync, G: Gate>(
             fault: None,
         });
     };
-    let run = run_root(alloc, rt, site, input, gate)?;
+    let run = run_root(rt, alloc, site, input, gate)?;
     Ok(Once {
         read: run.read,
         fault: run.exception,

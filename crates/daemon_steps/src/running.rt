@@ -19,8 +19,8 @@ use tuple_values::Memory;
 /// that was begun is counted with one tuple and no fault, and stands in the record. The writer has
 /// no turn afterwards.
 pub fn run_daemons<T: Turns, R: Threads + Sync, G: Gate>(
-    alloc: Global,
     rt: &R,
+    alloc: Global,
     site: &mut T,
     board: &mut Board,
     gate: &G,
@@ -38,7 +38,7 @@ pub fn run_daemons<T: Turns, R: Threads + Sync, G: Gate>(
     let _ = take_record_over(site);
     let mut after = 0;
     loop {
-        let Some(number) = run_next(alloc, rt, site, board, after, gate)? else {
+        let Some(number) = run_next(rt, alloc, site, board, after, gate)? else {
             return Ok(());
         };
         after = number;

@@ -15,8 +15,8 @@ use tuple_values::Memory;
 /// Runs the first running daemon that was put on the board after the one with a number, and answers
 /// its number. After an `Err` its run is counted with one tuple and no fault.
 pub(crate) fn run_next<T: Turns, R: Threads + Sync, G: Gate>(
-    alloc: Global,
     rt: &R,
+    alloc: Global,
     site: &mut T,
     board: &mut Board,
     after: u64,
@@ -34,7 +34,7 @@ pub(crate) fn run_next<T: Turns, R: Threads + Sync, G: Gate>(
         return Ok(None);
     };
     let number = claim.number;
-    match run_once(alloc, rt, site, &claim.checked, gate) {
+    match run_once(rt, alloc, site, &claim.checked, gate) {
         Ok(Once { read, fault }) => {
             board.finish(claim, read, fault, 0);
             Ok(Some(number))

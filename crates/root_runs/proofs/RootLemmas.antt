@@ -6,7 +6,6 @@ use Rattle.tuple_values.specs.declared.memory.Memory.{Memory}
 use Rattle.tuple_values.specs.declared.names.NameShards.{NameShards}
 use Rattle.shard_versions.specs.declared.cut.CutPart.{CutPart}
 use Rattle.topic_book.specs.Fitness.{shards_of}
-use Rattle.topic_book.specs.declared.topic.TopicKey.{TopicKey}
 use Rattle.exchange_rules.specs.Calls.{Carried, Ended}
 use Rattle.exchange_rules.specs.Courses.{Course, ends, and_then}
 use Rattle.exchange_rules.specs.Following.{Writer, Answers, Begins}
@@ -24,7 +23,7 @@ use Rattle.expr_types.specs.ExprTree.{ExprTree, TopicParts, operator_in}
 use Rattle.expr_types.specs.Plain.{is_plain}
 use Rattle.expr_check.specs.Parts.{input_of}
 use Rattle.expr_check.specs.Walk.{collections_of}
-use Rattle.update_sink.specs.Topics.{Sink, asked_of, batches_over, read_of, run_of, sink_of, topic_of}
+use Rattle.update_sink.specs.Topics.{Sink, asked_of, batches_over, read_of, run_of}
 use Rattle.root_runs.specs.Deeds.{Deed, deed_of, reads, follows, writes, commits, repeats, gives_summaries}
 use Rattle.root_runs.specs.Dones.{given, passed, unknown, misplaced, ran_over, committed}
 use Rattle.root_runs.specs.Texts.{Told}
@@ -155,50 +154,47 @@ both_first names a b p first =
     there_first names a (where_there names b p) (there_first names b p first)
 
 -- so does a topic that gives its tuples
-follow_first : (l : Layout) (key : TopicKey) (p : TopicParts)
-    → LooksFirst None (follow_course l key p)
-follow_first l key p =
+follow_first : (l : Layout) (p : TopicParts) → LooksFirst None (follow_course l p)
+follow_first l p =
     then_first None (read_course l.names (asked_of p None) (read_of p)) _
     ((runs_first {B = TopicRead}).read l (asked_of p None) (read_of p)) (λ r. tt)
 
 -- so does a topic that is delivered
-deliver_first : (l : Layout) (key : TopicKey) (s : Sink) → LooksFirst None (deliver_course l key s)
-deliver_first l key s =
+deliver_first : (l : Layout) (s : Sink) → LooksFirst None (deliver_course l s)
+deliver_first l s =
     then_first None (run_course l (asked_of s.topic (Some s.dest)) s.dest (batches_over s) run_of) _
     ((runs_first {B = TopicRun}).run l (asked_of s.topic (Some s.dest)) s.dest (batches_over s)
     run_of) (λ r. tt)
 
 -- so does an update, by what its input does
-update_by_first : (l : Layout) (whole : ExprTree) (dest : ByteList) (size : ℕ) (e : ExprTree)
-    (d : Deed) → LooksFirst None (update_by l whole dest size e d)
-update_by_first l whole dest size e reads =
+update_by_first : (l : Layout) (dest : ByteList) (size : ℕ) (e : ExprTree) (d : Deed)
+    → LooksFirst None (update_by l dest size e d)
+update_by_first l dest size e reads =
     reads_first l e (put_course l dest size) (put_first l dest size)
-update_by_first l whole dest size e (follows checkpoints src id) =
-    both_first l.names checkpoints src _
-    (deliver_first l (record { checkpoints = checkpoints; id = id }) (sink_of whole))
-update_by_first l whole dest size e (writes to most) = tt
-update_by_first l whole dest size e (commits to most) = tt
-update_by_first l whole dest size e repeats = tt
+update_by_first l dest size e (follows p) =
+    both_first l.names p.checkpoints p.collection _
+    (deliver_first l (record { topic = p; dest = dest; size = size }))
+update_by_first l dest size e (writes to most) = tt
+update_by_first l dest size e (commits to most) = tt
+update_by_first l dest size e repeats = tt
 
 -- so does an update with this input
-update_with_first : (l : Layout) (whole : ExprTree) (dest : ByteList) (size : ℕ)
-    (input : Option ExprTree) → LooksFirst None (update_with l whole dest size input)
-update_with_first l whole dest size None = tt
-update_with_first l whole dest size (Some e) =
-    update_by_first l whole dest size e (deed_of (operator_in e))
+update_with_first : (l : Layout) (dest : ByteList) (size : ℕ) (input : Option ExprTree)
+    → LooksFirst None (update_with l dest size input)
+update_with_first l dest size None = tt
+update_with_first l dest size (Some e) = update_by_first l dest size e (deed_of (operator_in e))
 
 -- so does an update
-update_first : (l : Layout) (whole : ExprTree) (dest : ByteList) (size : ℕ)
-    → LooksFirst None (update_over l whole dest size)
-update_first l whole dest size =
-    there_first l.names dest (update_with l whole dest size (input_of whole))
-    (update_with_first l whole dest size (input_of whole))
+update_first : (l : Layout) (dest : ByteList) (size : ℕ) (input : Option ExprTree)
+    → LooksFirst None (update_over l dest size input)
+update_first l dest size input =
+    there_first l.names dest (update_with l dest size input) (update_with_first l dest size input)
 
 -- so does what a commit has round it
 inner_first : (l : Layout) (e : ExprTree) (d : Deed) → LooksFirst None (inner_by l e d)
 inner_first l e reads = reads_first l e (λ docs. ends (passed docs)) (λ docs. tt)
-inner_first l e (follows checkpoints src id) = tt
-inner_first l e (writes dest size) = update_first l e dest size
+inner_first l e (follows p) = tt
+inner_first l e (writes dest size) = update_first l dest size (input_of e)
 inner_first l e (commits dest size) = tt
 inner_first l e repeats = tt
 
@@ -223,10 +219,9 @@ commit_first l dest size (Some e) =
 -- so does an expression, by what its root does
 root_by_first : (l : Layout) (e : ExprTree) (d : Deed) → LooksFirst None (root_by l e d)
 root_by_first l e reads = reads_first l e (λ docs. ends (given docs)) (λ docs. tt)
-root_by_first l e (follows checkpoints src id) =
-    both_first l.names checkpoints src _
-    (follow_first l (record { checkpoints = checkpoints; id = id }) (topic_of e))
-root_by_first l e (writes dest size) = update_first l e dest size
+root_by_first l e (follows p) =
+    both_first l.names p.checkpoints p.collection _ (follow_first l p)
+root_by_first l e (writes dest size) = update_first l dest size (input_of e)
 root_by_first l e (commits dest size) = commit_first l dest size (input_of e)
 root_by_first l e repeats = tt
 

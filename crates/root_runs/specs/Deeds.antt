@@ -5,14 +5,14 @@ use Rattle.tuple_values.specs.Document.{ByteList}
 use Rattle.expr_types.specs.ExprTree.{Operator, search, tuple, select, having, sort, top, unique}
 use Rattle.expr_types.specs.ExprTree.{merge, reduce, rollup, inner_join, left_outer_join, intersect}
 use Rattle.expr_types.specs.ExprTree.{complement, hash_join, outer_hash_join, in_parallel, topic}
-use Rattle.expr_types.specs.ExprTree.{update, commit, daemon}
+use Rattle.expr_types.specs.ExprTree.{update, commit, daemon, TopicParts}
 
--- it only reads, it follows a topic with checkpoints in the first collection, of the second one and
--- with this id, it writes what its input gives to a collection in batches of so many, it commits a
--- collection each time its input has given so many, or it runs its input again and again
+-- it only reads, it follows this topic, it writes what its input gives to a collection in batches of
+-- so many, it commits a collection each time its input has given so many, or it runs its input again
+-- and again
 pub data Deed : Type 0 where
   reads : Deed
-  follows : (checkpoints src id : ByteList) → Deed
+  follows : TopicParts → Deed
   writes : ByteList → ℕ → Deed
   commits : ByteList → Option ℕ → Deed
   repeats : Deed
@@ -36,7 +36,7 @@ deed_of (complement on) = reads
 deed_of (hash_join on) = reads
 deed_of (outer_hash_join on) = reads
 deed_of (in_parallel collection workers by) = reads
-deed_of (topic p) = follows p.checkpoints p.collection p.id
+deed_of (topic p) = follows p
 deed_of (update dest size) = writes dest size
 deed_of (commit dest size) = commits dest size
 deed_of (daemon id interval terminate) = repeats
@@ -44,7 +44,7 @@ deed_of (daemon id interval terminate) = repeats
 -- whether what it gives are summaries of what it wrote
 abbrev pub gives_summaries : Deed → Bool
 gives_summaries reads = false
-gives_summaries (follows checkpoints src id) = false
+gives_summaries (follows p) = false
 gives_summaries (writes dest size) = true
 gives_summaries (commits dest size) = false
 gives_summaries repeats = false

@@ -5,7 +5,6 @@ use Rattle.std.specs.Prelude.{[]}
 use Rattle.tuple_values.specs.Document.{ByteList, Doc}
 use Rattle.tuple_values.specs.declared.names.NameShards.{NameShards}
 use Rattle.topic_book.specs.Fitness.{shards_of}
-use Rattle.topic_book.specs.declared.topic.TopicKey.{TopicKey}
 use Rattle.exchange_rules.specs.Courses.{Course, ends, and_then}
 use Rattle.exchange_rules.specs.Rows.{Layout, cut_course}
 use Rattle.exchange_rules.specs.Topics.{read_course, run_course}
@@ -14,7 +13,7 @@ use Rattle.expr_types.specs.ExprTree.{ExprTree, TopicParts, operator_in}
 use Rattle.expr_types.specs.Plain.{is_plain}
 use Rattle.expr_check.specs.Parts.{input_of}
 use Rattle.expr_check.specs.Walk.{collections_of}
-use Rattle.update_sink.specs.Topics.{Sink, asked_of, batches_over, read_of, run_of, sink_of, topic_of}
+use Rattle.update_sink.specs.Topics.{Sink, asked_of, batches_over, key_of, read_of, run_of}
 use Rattle.root_runs.specs.Deeds.{Deed, deed_of, reads, follows, writes, commits, repeats, gives_summaries}
 use Rattle.root_runs.specs.Dones.{given, passed, stopped, misplaced, unknown, ran_over, committed, followed, delivered}
 use Rattle.root_runs.specs.Lists.{list_over}
@@ -45,42 +44,40 @@ abbrev pub where_both : List NameShards → ByteList → ByteList → Course Don
 where_both names a b course = where_there names a (where_there names b course)
 
 -- a topic that gives its tuples
-abbrev pub follow_course : Layout → TopicKey → TopicParts → Course Done
-follow_course l key p =
-    and_then (read_course l.names (asked_of p None) (read_of p)) (λ r. ends (followed key r))
+abbrev pub follow_course : Layout → TopicParts → Course Done
+follow_course l p =
+    and_then (read_course l.names (asked_of p None) (read_of p)) (λ r. ends (followed (key_of p) r))
 
 -- a topic that is delivered
-abbrev pub deliver_course : Layout → TopicKey → Sink → Course Done
-deliver_course l key s =
+abbrev pub deliver_course : Layout → Sink → Course Done
+deliver_course l s =
     and_then (run_course l (asked_of s.topic (Some s.dest)) s.dest (batches_over s) run_of)
-    (λ r. ends (delivered key r))
+    (λ r. ends (delivered (key_of s.topic) r))
 
--- an update of what its input gives, by what that does; the update is the first expression
-abbrev pub update_by : Layout → ExprTree → ByteList → ℕ → ExprTree → Deed → Course Done
-update_by l whole dest size e reads = reads_then l e (put_course l dest size)
-update_by l whole dest size e (follows checkpoints src id) =
-    where_both l.names checkpoints src
-    (deliver_course l (record { checkpoints = checkpoints; id = id }) (sink_of whole))
-update_by l whole dest size e (writes to most) = ends (misplaced e)
-update_by l whole dest size e (commits to most) = ends (misplaced e)
-update_by l whole dest size e repeats = ends (misplaced e)
+-- an update of what its input gives, by what that does
+abbrev pub update_by : Layout → ByteList → ℕ → ExprTree → Deed → Course Done
+update_by l dest size e reads = reads_then l e (put_course l dest size)
+update_by l dest size e (follows p) =
+    where_both l.names p.checkpoints p.collection
+    (deliver_course l (record { topic = p; dest = dest; size = size }))
+update_by l dest size e (writes to most) = ends (misplaced e)
+update_by l dest size e (commits to most) = ends (misplaced e)
+update_by l dest size e repeats = ends (misplaced e)
 
 -- an update with this input
-abbrev pub update_with : Layout → ExprTree → ByteList → ℕ → Option ExprTree → Course Done
-update_with l whole dest size None = ends (stopped (codes "WrongInputs update 0"))
-update_with l whole dest size (Some e) =
-    update_by l whole dest size e (deed_of (operator_in e))
+abbrev pub update_with : Layout → ByteList → ℕ → Option ExprTree → Course Done
+update_with l dest size None = ends (stopped (codes "WrongInputs update 0"))
+update_with l dest size (Some e) = update_by l dest size e (deed_of (operator_in e))
 
--- an update
-abbrev pub update_over : Layout → ExprTree → ByteList → ℕ → Course Done
-update_over l whole dest size =
-    where_there l.names dest (update_with l whole dest size (input_of whole))
+-- the same where the collection has shards
+abbrev pub update_over : Layout → ByteList → ℕ → Option ExprTree → Course Done
+update_over l dest size input = where_there l.names dest (update_with l dest size input)
 
 -- what a commit has round it, by what that does
 abbrev pub inner_by : Layout → ExprTree → Deed → Course Done
 inner_by l e reads = reads_then l e (λ docs. ends (passed docs))
-inner_by l e (follows checkpoints src id) = ends (misplaced e)
-inner_by l e (writes dest size) = update_over l e dest size
+inner_by l e (follows p) = ends (misplaced e)
+inner_by l e (writes dest size) = update_over l dest size (input_of e)
 inner_by l e (commits dest size) = ends (misplaced e)
 inner_by l e repeats = ends (misplaced e)
 
@@ -107,10 +104,8 @@ commit_over l dest size (Some e) =
 -- an expression, by what its root does; a daemon stands on a board and isn't carried out itself
 abbrev pub root_by : Layout → ExprTree → Deed → Course Done
 root_by l e reads = reads_then l e (λ docs. ends (given docs))
-root_by l e (follows checkpoints src id) =
-    where_both l.names checkpoints src
-    (follow_course l (record { checkpoints = checkpoints; id = id }) (topic_of e))
-root_by l e (writes dest size) = update_over l e dest size
+root_by l e (follows p) = where_both l.names p.checkpoints p.collection (follow_course l p)
+root_by l e (writes dest size) = update_over l dest size (input_of e)
 root_by l e (commits dest size) = commit_over l dest size (input_of e)
 root_by l e repeats = ends (misplaced e)
 

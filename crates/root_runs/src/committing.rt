@@ -87,8 +87,8 @@ fn commit_round<T: Turns>(
 
 // What a commit passes on of an expression that only reads.
 fn pass_plain<T: Turns, R: Threads + Sync, G: Gate>(
-    alloc: Global,
     rt: &R,
+    alloc: Global,
     site: &mut T,
     input: &Checked,
     gate: &G,
@@ -98,14 +98,14 @@ fn pass_plain<T: Turns, R: Threads + Sync, G: Gate>(
         (reads_then (T.layout site.old) (tree_of input.now) (λ docs. ends (passed docs))) result }
     ensures stays { Stays T.layout T.home T.free site.old site.new }
 {
-    let docs = run_plain(alloc, rt, site, input, gate)?;
+    let docs = run_plain(rt, alloc, site, input, gate)?;
     Ok(Done::passed(docs))
 }
 
 // What a commit has round it.
 fn run_inner<T: Turns, R: Threads + Sync, G: Gate>(
-    alloc: Global,
     rt: &R,
+    alloc: Global,
     site: &mut T,
     commit: &CommitRoot<'_>,
     gate: &G,
@@ -117,15 +117,15 @@ fn run_inner<T: Turns, R: Threads + Sync, G: Gate>(
     ensures stays { Stays T.layout T.home T.free site.old site.new }
 {
     match &commit.inner {
-        Inner::Reads => pass_plain(alloc, rt, site, commit.input, gate),
-        Inner::Update(update) => run_update_of(alloc, rt, site, update, commit.input, gate),
+        Inner::Reads => pass_plain(rt, alloc, site, commit.input, gate),
+        Inner::Update(update) => run_update_of(rt, alloc, site, update, gate),
     }
 }
 
 /// The commit that an expression is, round its input.
 pub(crate) fn run_commit_of<T: Turns, R: Threads + Sync, G: Gate>(
-    alloc: Global,
     rt: &R,
+    alloc: Global,
     site: &mut T,
     commit: &CommitRoot<'_>,
     gate: &G,
@@ -137,6 +137,6 @@ pub(crate) fn run_commit_of<T: Turns, R: Threads + Sync, G: Gate>(
     ensures stays { Stays T.layout T.home T.free site.old site.new }
 {
     let summaries = gives_summaries(commit);
-    let done = run_inner(alloc, rt, site, commit, gate)?;
+    let done = run_inner(rt, alloc, site, commit, gate)?;
     commit_round(alloc, site, commit, summaries, done)
 }

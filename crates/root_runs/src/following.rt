@@ -1,5 +1,5 @@
 // Topics that give their tuples, and topics that are delivered.
-ghost use Rattle.std.specs.Prelude.{◌≡◌, ◌<◌, IfOk, IsSome, Err};
+ghost use Rattle.std.specs.Prelude.{◌≡◌, ◌<◌, IfOk, Err};
 ghost use Rattle.exchange_rules.specs.Calls.{Carried};
 ghost use Rattle.expr_check.specs.Roots.{topic_parts, IsTopicOf};
 ghost use Rattle.expr_check.specs.Views.{tree_of};
@@ -7,8 +7,8 @@ ghost use Rattle.root_runs.specs.Dones.{delivered, followed};
 ghost use Rattle.root_runs.specs.Runs.{deliver_course, follow_course, where_both};
 ghost use Rattle.root_runs.specs.Texts.{Told};
 ghost use Rattle.topic_book.specs.Fitness.{shards_of};
-ghost use Rattle.update_sink.specs.Topics.{key_of, sink_in_tree, sink_of, topic_of};
-ghost use Rattle.update_sink.specs.Topics.{IsSinkThere, IsThere};
+ghost use Rattle.update_sink.specs.Topics.{key_of, sink_of};
+ghost use Rattle.update_sink.specs.Topics.{IsCheckedDelivery, IsSinkThere, IsThere};
 ghost use Rattle.root_runs.specs.Stays.{Stays};
 
 use crate::Done;
@@ -20,7 +20,7 @@ use io_edge::Gate;
 use std::alloc::Global;
 use stream_site::Turns;
 use tuple_values::{Memory, Tuples};
-use update_sink::{read_topic, run_topic};
+use update_sink::{Delivery, read_topic, run_topic};
 
 // A topic that gives its tuples, refused.
 fn follow_refused(alloc: Global, topic: &TopicRoot<'_>, fault: &SiteFault) -> Result<Done, Memory>
@@ -55,11 +55,10 @@ fn follow_there<T: Turns>(
     requires topic { IsTopicOf (tree_of checked.now) topic.now }
     requires there { IsThere (T.layout site.old).names (topic_parts topic.now) }
     ensures course { Carried (T.writer site.old) (T.writer site.new)
-        (follow_course (T.layout site.old) (key_of (topic_parts topic.now))
-        (topic_of (tree_of checked.now))) result }
+        (follow_course (T.layout site.old) (topic_parts topic.now)) result }
     ensures stays { Stays T.layout T.home T.free site.old site.new }
 {
-    match read_topic(alloc, site, checked) {
+    match read_topic(alloc, site, topic, checked) {
         Ok(read) => Ok(Done::given(read.tuples)),
         Err(fault) => follow_refused(alloc, topic, &fault),
     }
@@ -75,8 +74,7 @@ pub(crate) fn run_follow<T: Turns>(
     requires topic { IsTopicOf (tree_of checked.now) topic.now }
     ensures course { Carried (T.writer site.old) (T.writer site.new)
         (where_both (T.layout site.old).names topic.now.checkpoints.now topic.now.collection.now
-        (follow_course (T.layout site.old) (key_of (topic_parts topic.now))
-        (topic_of (tree_of checked.now)))) result }
+        (follow_course (T.layout site.old) (topic_parts topic.now))) result }
     ensures stays { Stays T.layout T.home T.free site.old site.new }
 {
     if !is_there(site, topic.checkpoints) {
@@ -92,50 +90,46 @@ pub(crate) fn run_follow<T: Turns>(
 fn deliver_there<T: Turns, G: Gate>(
     alloc: Global,
     site: &mut T,
-    topic: &TopicRoot<'_>,
-    checked: &Checked,
+    delivery: &Delivery<'_>,
     gate: &G,
 ) -> Result<Done, Memory>
-    requires sink { IsSome (sink_in_tree (tree_of checked.now)) }
-    requires there { IsSinkThere (T.layout site.old).names (sink_of (tree_of checked.now)) }
+    requires delivery { IsCheckedDelivery delivery.now }
+    requires there { IsSinkThere (T.layout site.old).names (sink_of delivery.now) }
     ensures course { Carried (T.writer site.old) (T.writer site.new)
-        (deliver_course (T.layout site.old) (key_of (topic_parts topic.now))
-        (sink_of (tree_of checked.now))) result }
+        (deliver_course (T.layout site.old) (sink_of delivery.now)) result }
     ensures stays { Stays T.layout T.home T.free site.old site.new }
 {
-    match run_topic(alloc, site, checked, gate) {
+    match run_topic(alloc, site, delivery, gate) {
         Ok(run) => Ok(Done {
             docs: run.summaries,
             exception: None,
             read: run.read,
             stand: run.stand,
         }),
-        Err(stop) => delivery_stopped(alloc, topic, stop),
+        Err(stop) => delivery_stopped(alloc, &delivery.topic, stop),
     }
 }
 
-/// A topic that is delivered, by the update that is checked, whose destination is there.
+/// A topic that is delivered to a collection that is there.
 pub(crate) fn run_delivery<T: Turns, G: Gate>(
     alloc: Global,
     site: &mut T,
-    topic: &TopicRoot<'_>,
-    checked: &Checked,
+    delivery: &Delivery<'_>,
     gate: &G,
 ) -> Result<Done, Memory>
-    requires sink { IsSome (sink_in_tree (tree_of checked.now)) }
-    requires topic { (sink_of (tree_of checked.now)).topic ≡ topic_parts topic.now }
-    requires dest { 0 < shards_of (T.layout site.old).names (sink_of (tree_of checked.now)).dest }
+    requires delivery { IsCheckedDelivery delivery.now }
+    requires dest { 0 < shards_of (T.layout site.old).names delivery.now.dest.now }
     ensures course { Carried (T.writer site.old) (T.writer site.new)
-        (where_both (T.layout site.old).names topic.now.checkpoints.now topic.now.collection.now
-        (deliver_course (T.layout site.old) (key_of (topic_parts topic.now))
-        (sink_of (tree_of checked.now)))) result }
+        (where_both (T.layout site.old).names delivery.now.topic.checkpoints.now
+        delivery.now.topic.collection.now
+        (deliver_course (T.layout site.old) (sink_of delivery.now))) result }
     ensures stays { Stays T.layout T.home T.free site.old site.new }
 {
-    if !is_there(site, topic.checkpoints) {
-        return Done::unknown(alloc, topic.checkpoints);
+    if !is_there(site, delivery.topic.checkpoints) {
+        return Done::unknown(alloc, delivery.topic.checkpoints);
     }
-    if !is_there(site, topic.collection) {
-        return Done::unknown(alloc, topic.collection);
+    if !is_there(site, delivery.topic.collection) {
+        return Done::unknown(alloc, delivery.topic.collection);
     }
-    deliver_there(alloc, site, topic, checked, gate)
+    deliver_there(alloc, site, delivery, gate)
 }

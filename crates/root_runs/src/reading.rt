@@ -18,8 +18,8 @@ use tuple_values::{Memory, Tuples};
 
 // The tuples that an expression gives over a cut of its collections.
 fn evaluate<R: Threads + Sync, G: Gate>(
-    alloc: Global,
     rt: &R,
+    alloc: Global,
     checked: &Checked,
     cut: &Cut,
     gate: &G,
@@ -33,8 +33,8 @@ fn evaluate<R: Threads + Sync, G: Gate>(
 /// The tuples that an expression which only reads gives at the site, over a cut of its collections.
 /// The writer has no turn afterwards.
 pub fn run_plain<T: Turns, R: Threads + Sync, G: Gate>(
-    alloc: Global,
     rt: &R,
+    alloc: Global,
     site: &mut T,
     checked: &Checked,
     gate: &G,
@@ -46,7 +46,7 @@ pub fn run_plain<T: Turns, R: Threads + Sync, G: Gate>(
     ensures free { T.free site.new }
 {
     match take_cut_over(alloc, site, checked.collections()) {
-        Ok(cut) => evaluate(alloc, rt, checked, &cut, gate),
+        Ok(cut) => evaluate(rt, alloc, checked, &cut, gate),
         Err(_) => Err(Memory::OutOfMemory),
     }
 }

@@ -26,8 +26,8 @@ use tuple_values::{Memory, Text, Tuples};
 
 // What an expression gives that only reads.
 fn give_plain<T: Turns, R: Threads + Sync, G: Gate>(
-    alloc: Global,
     rt: &R,
+    alloc: Global,
     site: &mut T,
     checked: &Checked,
     gate: &G,
@@ -37,15 +37,15 @@ fn give_plain<T: Turns, R: Threads + Sync, G: Gate>(
         (reads_then (T.layout site.old) (tree_of checked.now) (λ docs. ends (given docs))) result }
     ensures stays { Stays T.layout T.home T.free site.old site.new }
 {
-    let docs = run_plain(alloc, rt, site, checked, gate)?;
+    let docs = run_plain(rt, alloc, site, checked, gate)?;
     Ok(Done::given(docs))
 }
 
 /// What an expression does at the site. A daemon stands on a board and isn't carried out itself. After
 /// an `Err` a beginning of it was done.
 pub fn run_deed<T: Turns, R: Threads + Sync, G: Gate>(
-    alloc: Global,
     rt: &R,
+    alloc: Global,
     site: &mut T,
     checked: &Checked,
     gate: &G,
@@ -55,10 +55,10 @@ pub fn run_deed<T: Turns, R: Threads + Sync, G: Gate>(
     ensures stays { Stays T.layout T.home T.free site.old site.new }
 {
     match checked.root() {
-        Root::Reads => give_plain(alloc, rt, site, checked, gate),
+        Root::Reads => give_plain(rt, alloc, site, checked, gate),
         Root::Topic(topic) => run_follow(alloc, site, &topic, checked),
-        Root::Update(update) => run_update_of(alloc, rt, site, &update, checked, gate),
-        Root::Commit(commit) => run_commit_of(alloc, rt, site, &commit, gate),
+        Root::Update(update) => run_update_of(rt, alloc, site, &update, gate),
+        Root::Commit(commit) => run_commit_of(rt, alloc, site, &commit, gate),
         Root::Daemon(_) => Done::misplaced(alloc, checked.expr()),
     }
 }
@@ -79,8 +79,8 @@ pub struct RootRun {
 /// Where memory is wanting, what was done so far stands in the record. The writer has no turn
 /// afterwards.
 pub fn run_root<T: Turns, R: Threads + Sync, G: Gate>(
-    alloc: Global,
     rt: &R,
+    alloc: Global,
     site: &mut T,
     checked: &Checked,
     gate: &G,
@@ -93,7 +93,7 @@ pub fn run_root<T: Turns, R: Threads + Sync, G: Gate>(
     ensures free { T.free site.new }
 {
     let _ = take_record_over(site);
-    let done = run_deed(alloc, rt, site, checked, gate)?;
+    let done = run_deed(rt, alloc, site, checked, gate)?;
     let record = take_record_over(site);
     Ok(RootRun {
         docs: done.docs,

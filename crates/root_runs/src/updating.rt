@@ -1,7 +1,7 @@
 // Updates of what an expression gives.
-ghost use Rattle.std.specs.Prelude.{◌≡◌, ◌<◌, IfOk, length, option_map};
+ghost use Rattle.std.specs.Prelude.{◌≡◌, ◌<◌, IfOk, Some, length, option_map};
 ghost use Rattle.exchange_rules.specs.Calls.{Carried};
-ghost use Rattle.expr_check.specs.Roots.{IsUpdateOf};
+ghost use Rattle.expr_check.specs.Roots.{IsFeedOf};
 ghost use Rattle.expr_check.specs.Views.{tree_of};
 ghost use Rattle.expr_types.specs.ExprTree.{operator_in};
 ghost use Rattle.expr_types.specs.Plain.{IsPlain};
@@ -18,13 +18,13 @@ use crate::reading::run_plain;
 use crate::texts::run_told;
 use crate::there::is_there;
 use exchange_rules::{Ran, RunFault};
-use expr_check::{Checked, Feed, UpdateRoot};
+use expr_check::{Feed, UpdateRoot};
 use io_edge::Gate;
 use std::alloc::Global;
 use std::thread::Threads;
 use stream_site::Turns;
 use tuple_values::{Memory, Text, Tuples};
-use update_sink::run_update;
+use update_sink::{Delivery, run_update};
 
 // How many tuples an update read, where it has no fault.
 fn read_by(tuples: u64, fault: Option<&RunFault>) -> u64
@@ -81,8 +81,8 @@ fn put_docs<T: Turns>(
 
 // An update of what an expression gives that only reads.
 fn put_plain<T: Turns, R: Threads + Sync, G: Gate>(
-    alloc: Global,
     rt: &R,
+    alloc: Global,
     site: &mut T,
     update: &UpdateRoot<'_>,
     gate: &G,
@@ -95,50 +95,58 @@ fn put_plain<T: Turns, R: Threads + Sync, G: Gate>(
         (put_course (T.layout site.old) update.now.dest.now update.now.batch_size)) result }
     ensures stays { Stays T.layout T.home T.free site.old site.new }
 {
-    let docs = run_plain(alloc, rt, site, update.input, gate)?;
+    let docs = run_plain(rt, alloc, site, update.input, gate)?;
     put_docs(alloc, site, update, docs)
 }
 
 // An update of what its input gives, to a collection that is there.
 fn update_input<T: Turns, R: Threads + Sync, G: Gate>(
-    alloc: Global,
     rt: &R,
+    alloc: Global,
     site: &mut T,
     update: &UpdateRoot<'_>,
-    checked: &Checked,
     gate: &G,
 ) -> Result<Done, Memory>
-    requires update { IsUpdateOf (tree_of checked.now) update.now }
+    requires filled { 0 < update.now.batch_size }
+    requires fed { IsFeedOf update.now.dest.now (tree_of update.now.input.now) update.now.feed }
     requires known { 0 < shards_of (T.layout site.old).names update.now.dest.now }
     ensures course { Carried (T.writer site.old) (T.writer site.new)
-        (update_by (T.layout site.old) (tree_of checked.now) update.now.dest.now
-        update.now.batch_size (tree_of update.now.input.now)
-        (deed_of (operator_in (tree_of update.now.input.now)))) result }
+        (update_by (T.layout site.old) update.now.dest.now update.now.batch_size
+        (tree_of update.now.input.now) (deed_of (operator_in (tree_of update.now.input.now))))
+        result }
     ensures stays { Stays T.layout T.home T.free site.old site.new }
 {
-    match &update.feed {
-        Feed::Reads => put_plain(alloc, rt, site, update, gate),
-        Feed::Topic(topic) => run_delivery(alloc, site, topic, checked, gate),
+    match update.feed {
+        Feed::Reads => put_plain(rt, alloc, site, update, gate),
+        Feed::Topic(topic) => {
+            let delivery = Delivery {
+                topic,
+                input: update.input,
+                dest: update.dest,
+                batch_size: update.batch_size,
+            };
+            run_delivery(alloc, site, &delivery, gate)
+        }
     }
 }
 
-/// The update that an expression is.
+/// An update, as an expression is one.
 pub(crate) fn run_update_of<T: Turns, R: Threads + Sync, G: Gate>(
-    alloc: Global,
     rt: &R,
+    alloc: Global,
     site: &mut T,
     update: &UpdateRoot<'_>,
-    checked: &Checked,
     gate: &G,
 ) -> Result<Done, Memory>
-    requires { IsUpdateOf (tree_of checked.now) update.now }
+    requires filled { 0 < update.now.batch_size }
+    requires fed { IsFeedOf update.now.dest.now (tree_of update.now.input.now) update.now.feed }
     ensures course { Carried (T.writer site.old) (T.writer site.new)
-        (update_over (T.layout site.old) (tree_of checked.now) update.now.dest.now
-        update.now.batch_size) result }
+        (update_over (T.layout site.old) update.now.dest.now update.now.batch_size
+        (Some (tree_of update.now.input.now))) result }
     ensures stays { Stays T.layout T.home T.free site.old site.new }
 {
     if !is_there(site, update.dest) {
         return Done::unknown(alloc, update.dest);
     }
-    update_input(alloc, rt, site, update, checked, gate)
+    update_input(rt, alloc, site, update, gate)
 }

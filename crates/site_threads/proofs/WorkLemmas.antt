@@ -1,6 +1,5 @@
 -- What follows of calls that were made one after another.
-use Rattle.std.proofs.Common.{◌≡◌, List, [], ◌∷◌, ◌++◌, refl, subst, Result, Ok, Err}
-use Rattle.std.specs.List.{AllByRecursion}
+use Rattle.std.proofs.Common.{List, [], ◌∷◌, ◌++◌, refl, subst, Result, Ok, Err}
 use Rattle.shard_versions.proofs.ListLemmas.{each_append, each_weaker}
 use Rattle.exchange_rules.specs.Calls.{Answered}
 use Rattle.exchange_rules.specs.Courses.{Course, ends}

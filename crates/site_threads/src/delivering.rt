@@ -1,15 +1,12 @@
 // A worker that delivers what a topic gives.
-ghost use Rattle.std.specs.Prelude.{◌≡◌, true, IfSome, IsSome};
-ghost use Rattle.expr_types.specs.ExprTree.{expr_tree};
-ghost use Rattle.expr_check.specs.Views.{tree_of};
+ghost use Rattle.std.specs.Prelude.{◌≡◌, IfSome};
 ghost use Rattle.running_site.specs.Passes.{number_of, writer_of};
 ghost use Rattle.running_site.specs.Sites.{layout_at, IsPassAt};
-ghost use Rattle.update_sink.specs.Topics.{sink_in_tree, sink_of, IsSinkThere};
+ghost use Rattle.update_sink.specs.Topics.{sink_of, IsCheckedDelivery, IsSinkThere};
 ghost use Rattle.site_threads.specs.Work.{HasWorked, IsRun};
 
-use expr_check::{Checked, Roots};
+use expr_check::{Checked, Feed, Root, Roots};
 use expr_text::read_checked;
-use expr_types::Expr;
 use io_edge::{Gate, NoGate};
 use running_site::{Pass, Site};
 use std::alloc::Global;
@@ -17,7 +14,7 @@ use std::sync::Wait;
 use std::thread::yield_now;
 use stream_site::shards_of;
 use tuple_values::Names;
-use update_sink::{TopicRun, run_topic};
+use update_sink::{Delivery, TopicRun, run_topic};
 
 /// A topic, whose documents go from the first collection to the second.
 pub const FIRST: &[u8] =
@@ -30,25 +27,29 @@ pub const SECOND: &[u8] =
 /// How often the topic runs at most.
 const ROUNDS: u64 = 1_000_000;
 
-// Whether the expression is an update of a topic whose collections are there.
-fn is_delivery(names: &Names, update: &Expr) -> bool
-    ensures topic { result ≡ true → IsSome (sink_in_tree (expr_tree update.now)) }
-    ensures there { result ≡ true → IsSinkThere names.now (sink_of (expr_tree update.now)) }
+// The update of a topic that a checked expression is, if its collections are there.
+fn delivery_of<'a>(names: &Names, checked: &'a Checked) -> Option<Delivery<'a>>
+    ensures { IfSome result
+        (λ d. IsCheckedDelivery d × IsSinkThere names.now (sink_of d)) }
 {
-    let Expr::Update { input, dest, .. } = update else {
-        return false;
+    let Root::Update(update) = checked.root() else {
+        return None;
     };
-    let Expr::Topic {
-        checkpoints,
-        collection,
-        ..
-    } = &**input
-    else {
-        return false;
+    let Feed::Topic(topic) = update.feed else {
+        return None;
     };
-    shards_of(names, checkpoints.as_str()) > 0
-        && shards_of(names, collection.as_str()) > 0
-        && shards_of(names, dest.as_str()) > 0
+    let is_there = shards_of(names, topic.checkpoints.as_str()) > 0
+        && shards_of(names, topic.collection.as_str()) > 0
+        && shards_of(names, update.dest.as_str()) > 0;
+    if !is_there {
+        return None;
+    }
+    Some(Delivery {
+        topic,
+        input: update.input,
+        dest: update.dest,
+        batch_size: update.batch_size,
+    })
 }
 
 // Runs the topic once; what it did, if that isn't refused.
@@ -57,33 +58,21 @@ fn run<R: Wait, G: Gate>(
     alloc: Global,
     site: &Site,
     pass: &mut Pass,
-    checked: &Checked,
+    delivery: &Delivery<'_>,
     gate: &G,
 ) -> Option<TopicRun>
     requires own { IsPassAt site.now pass.old }
-    requires topic { IsSome (sink_in_tree (tree_of checked.now)) }
-    requires there { IsSinkThere site.now.names (sink_of (tree_of checked.now)) }
+    requires delivery { IsCheckedDelivery delivery.now }
+    requires there { IsSinkThere site.now.names (sink_of delivery.now) }
     ensures own { IsPassAt site.now pass.new }
     ensures number { number_of pass.new ≡ number_of pass.old }
     ensures work { HasWorked (layout_at site.now) IsRun (writer_of pass.old)
         (writer_of pass.new) }
 {
     let mut visit = site.visit(rt, pass);
-    let result = run_topic(alloc, &mut visit, checked, gate);
+    let result = run_topic(alloc, &mut visit, delivery, gate);
     visit.end(pass);
     result.ok()
-}
-
-// The update of a topic that the bytes write, if its collections are there.
-fn topic(alloc: Global, names: &Names, bytes: &[u8]) -> Option<Checked>
-    ensures { IfSome result (λ checked. IsSome (sink_in_tree (tree_of checked))
-        × IsSinkThere names.now (sink_of (tree_of checked))) }
-{
-    let checked = read_checked(alloc, names, bytes, Roots::All).ok()?;
-    if !is_delivery(names, checked.expr()) {
-        return None;
-    }
-    Some(checked)
 }
 
 // Runs the topic once; how many documents it read, if that isn't refused.
@@ -92,17 +81,17 @@ fn read_by<R: Wait>(
     alloc: Global,
     site: &Site,
     pass: &mut Pass,
-    checked: &Checked,
+    delivery: &Delivery<'_>,
 ) -> Option<u64>
     requires own { IsPassAt site.now pass.old }
-    requires topic { IsSome (sink_in_tree (tree_of checked.now)) }
-    requires there { IsSinkThere site.now.names (sink_of (tree_of checked.now)) }
+    requires delivery { IsCheckedDelivery delivery.now }
+    requires there { IsSinkThere site.now.names (sink_of delivery.now) }
     ensures own { IsPassAt site.now pass.new }
     ensures number { number_of pass.new ≡ number_of pass.old }
     ensures work { HasWorked (layout_at site.now) IsRun (writer_of pass.old)
         (writer_of pass.new) }
 {
-    let run = run(rt, alloc, site, pass, checked, &NoGate)?;
+    let run = run(rt, alloc, site, pass, delivery, &NoGate)?;
     Some(run.read)
 }
 
@@ -112,12 +101,12 @@ fn deliver_until<R: Wait>(
     alloc: Global,
     site: &Site,
     pass: &mut Pass,
-    checked: &Checked,
+    delivery: &Delivery<'_>,
     wanted: u64,
 ) -> Option<u64>
     requires own { IsPassAt site.now pass.old }
-    requires topic { IsSome (sink_in_tree (tree_of checked.now)) }
-    requires there { IsSinkThere site.now.names (sink_of (tree_of checked.now)) }
+    requires delivery { IsCheckedDelivery delivery.now }
+    requires there { IsSinkThere site.now.names (sink_of delivery.now) }
     ensures own { IsPassAt site.now pass.new }
     ensures number { number_of pass.new ≡ number_of pass.old }
     ensures work { HasWorked (layout_at site.now) IsRun (writer_of pass.old)
@@ -128,7 +117,7 @@ fn deliver_until<R: Wait>(
         if done >= wanted {
             break;
         }
-        let count = read_by(rt, alloc, site, pass, checked)?;
+        let count = read_by(rt, alloc, site, pass, delivery)?;
         done = done.saturating_add(count);
         yield_now();
     }
@@ -150,8 +139,11 @@ pub fn deliver_once<R: Wait, G: Gate>(
     ensures work { HasWorked (layout_at site.now) IsRun (writer_of pass.old)
         (writer_of pass.new) }
 {
-    let checked = topic(alloc, site.names(), bytes)?;
-    run(rt, alloc, site, pass, &checked, gate)
+    let checked = read_checked(alloc, site.names(), bytes, Roots::All).ok()?;
+    let Some(delivery) = delivery_of(site.names(), &checked) else {
+        return None;
+    };
+    run(rt, alloc, site, pass, &delivery, gate)
 }
 
 /// Runs the first topic until so many documents were delivered; how many were, if no run is refused.
@@ -168,6 +160,9 @@ pub fn deliver_all<R: Wait>(
     ensures work { HasWorked (layout_at site.now) IsRun (writer_of pass.old)
         (writer_of pass.new) }
 {
-    let checked = topic(alloc, site.names(), FIRST)?;
-    deliver_until(rt, alloc, site, pass, &checked, wanted)
+    let checked = read_checked(alloc, site.names(), FIRST, Roots::All).ok()?;
+    let Some(delivery) = delivery_of(site.names(), &checked) else {
+        return None;
+    };
+    deliver_until(rt, alloc, site, pass, &delivery, wanted)
 }

@@ -22,16 +22,14 @@ use Rattle.topic_book.specs.Fitness.{shards_of}
 use Rattle.once_core.specs.Cells.{home_history, shard_history}
 use Rattle.once_core.specs.Law.{IsFitAt, IsFitCell}
 use Rattle.once_core.proofs.CurrentLemmas.{IsLast, current-last, id_with_version}
-use Rattle.once_core.proofs.GrowthLemmas.{delivery_up}
 use Rattle.once_core.proofs.PlaceLemmas.{current-here}
 use Rattle.exchange_rules.specs.Cells.{Log, history_in}
 use Rattle.exchange_rules.specs.Following.{Grows}
-use Rattle.exchange_rules.specs.declared.batch.BatchItem.{BatchItem}
 use Rattle.exchange_rules.proofs.CellLemmas.{cell_of-within}
 use Rattle.exchange_rules.proofs.GrowthLemmas.{grows_at}
 use Rattle.site_laws.specs.Duties.{IsItem}
 use Rattle.site_laws.specs.SiteCells.{histories_in, AreSeenOf}
-use Rattle.site_laws.proofs.CellLemmas.{seen-grows, shard-at}
+use Rattle.site_laws.proofs.CellLemmas.{shard-at}
 use Rattle.site_laws.proofs.DutyLemmas.{place-named}
 use Rattle.source_streams.specs.Batches.{cut_item, given_names, is_before, is_new, item_of, items_in, items_of, new_items, topic_items, whole_batch}
 use Rattle.source_streams.specs.declared.batch.TopicItem.{TopicItem}
@@ -360,17 +358,3 @@ items-of names seen dest src fl items g rises =
 -- what was seen begins what was seen later
 pub grown-of : (seen later : List Log) → Grows seen later → AreSeenOf seen later
 grown-of seen later g cell = grows_at seen later g cell
-
--- items that might be delivered may be after more was seen
-pub items-later : (names : List NameShards) (seen later : List Log) (dest src : ByteList)
-    (items : List BatchItem) → Grows seen later
-    → AllByRecursion (IsItem names seen dest src) items
-    → AllByRecursion (IsItem names later dest src) items
-items-later names seen later dest src items g a =
-    each_weaker (IsItem names seen dest src) (IsItem names later dest src)
-    (λ i x. record {
-      storable = x.storable;
-      delivery = delivery_up names (histories_in names seen) (histories_in names later)
-          (seen-grows names seen later (grown-of seen later g)) (cell_of names dest 0) src
-          i.version i.document x.delivery;
-    }) items a

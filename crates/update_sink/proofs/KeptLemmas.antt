@@ -1,8 +1,9 @@
 -- What a run keeps of its promise, by what was done of its cut.
-use Rattle.std.proofs.Common.{◌≡◌, ℕ, List, sym, subst, Some, Result, Ok, Err}
+use Rattle.std.proofs.Common.{◌≡◌, ℕ, List, sym, subst, Result, Ok, Err}
 use Rattle.std.specs.Prelude.{IfOk, OnErr, OnOk}
 use Rattle.tuple_values.specs.Document.{ByteList}
 use Rattle.shard_versions.specs.declared.cut.CutPart.{CutPart}
+use Rattle.topic_book.specs.declared.topic.TopicKey.{TopicKey}
 use Rattle.exchange_rules.specs.Calls.{Answered, HasAppended, Stopped}
 use Rattle.exchange_rules.specs.Courses.{Course, ends}
 use Rattle.exchange_rules.specs.Following.{Writer, Answers}
@@ -15,13 +16,12 @@ use Rattle.exchange_rules.specs.declared.run.TopicRun.{TopicRun}
 use Rattle.exchange_rules.proofs.GrowthLemmas.{grows_join}
 use Rattle.source_streams.specs.Batches.{topic_items}
 use Rattle.source_streams.specs.declared.batch.TopicItem.{TopicItem}
-use Rattle.expr_types.specs.ExprTree.{TopicParts}
 use Rattle.update_sink.specs.Given.{AreThereNow}
 use Rattle.update_sink.specs.Promises as promised
 use Rattle.update_sink.specs.Promises.{IsKept, IsUnstored}
 use Rattle.update_sink.specs.Runs.{IsRun}
 use Rattle.update_sink.specs.Sends.{IsToldOf}
-use Rattle.update_sink.specs.Topics.{Sink, asked_of, run_at}
+use Rattle.update_sink.specs.Topics.{Sink, key_of, run_at}
 use Rattle.update_sink.proofs.PromiseLemmas.{HasReached, begin-unstored, run-reached, source-unstored, unstored-only, unstored-then}
 
 -- what follows from what holds of an error holds of it
@@ -85,30 +85,22 @@ module _ (old mid : Writer) (l : Layout) (t : Asked) (before : List ℕ)
       (source-unstored l1.names src) h.reached.grown x)) u
 
 -- what a run keeps, by what was delivered and stored of its cut
-pub run-kept : (l there : Layout) (p : TopicParts) (dest : ByteList) (size : ℕ) (t : Asked)
-    (before : List ℕ) (cut : List CutPart) (items : List TopicItem) (tops : List ℕ) (new : Writer)
-    (r : Result TopicRun TopicFault) → there ≡ l → t ≡ asked_of p (Some dest)
-    → items ≡ topic_items p cut before → tops ≡ tops_of cut
-    → IfOk r (λ run. IsToldOf before cut tops run)
-    → OnOk r (AreThereNow there.names new.seen dest t.src items)
-    → OnOk r (promised.HasReached there.names new.seen t.key tops)
-    → IfOk r (IsKept l new (record { topic = p; dest = dest; size = size }))
-run-kept l there p dest size t before cut items tops new (Err x) here is given stored told a b = tt
-run-kept l there p dest size t before cut items tops new (Ok run) here is given stored told a b =
-    let s : Sink = record { topic = p; dest = dest; size = size } in
-    let a1 = subst (λ (x : Layout). AreThereNow x.names new.seen dest t.src items) here a in
-    let a2 = subst (λ (x : Asked). AreThereNow l.names new.seen dest x.src items) is a1 in
-    let a3 = subst (AreThereNow l.names new.seen dest p.collection) given a2 in
-    let b1 = subst (λ (x : Layout). promised.HasReached x.names new.seen t.key tops) here b in
-    let b2 = subst (λ (x : Asked). promised.HasReached l.names new.seen x.key tops) is b1 in
+pub run-kept : (l there : Layout) (s : Sink) (key : TopicKey) (before : List ℕ) (cut : List CutPart)
+    (items : List TopicItem) (tops : List ℕ) (new : Writer) (r : Result TopicRun TopicFault)
+    → there ≡ l → key ≡ key_of s.topic → items ≡ topic_items s.topic cut before
+    → tops ≡ tops_of cut → IfOk r (λ run. IsToldOf before cut tops run)
+    → OnOk r (AreThereNow there.names new.seen s.dest s.topic.collection items)
+    → OnOk r (promised.HasReached there.names new.seen key tops) → IfOk r (IsKept l new s)
+run-kept l there s key before cut items tops new (Err x) here own given stored told a b = tt
+run-kept l there s key before cut items tops new (Ok run) here own given stored told a b =
+    let src = s.topic.collection in
+    let a1 = subst (λ (x : Layout). AreThereNow x.names new.seen s.dest src items) here a in
+    let a2 = subst (AreThereNow l.names new.seen s.dest src) given a1 in
+    let b1 = subst (λ (x : Layout). promised.HasReached x.names new.seen key tops) here b in
+    let b2 = subst (λ k. promised.HasReached l.names new.seen k tops) own b1 in
     let kept : IsKept l new s (run_at before cut tops told.sunk) = record {
-      there = a3;
+      there = a2;
       tops = stored;
       reached = b2;
     } in
     subst (IsKept l new s) (sym told.is) kept
-
--- the same of an expression, by what it is
-pub kept-at : (l : Layout) (new : Writer) (s u : Sink) (r : Result TopicRun TopicFault) → s ≡ u
-    → IfOk r (IsKept l new u) → IfOk r (IsKept l new s)
-kept-at l new s u r e k = subst (λ (x : Sink). IfOk r (IsKept l new x)) (sym e) k

@@ -1,6 +1,6 @@
 -- A topic that is read, part by part, and the text of its query.
-use Rattle.std.proofs.Common.{◌≡◌, ℕ, List, refl, sym, ap, subst, ◌∙◌, Option, Some, None, Result, Ok, Err}
-use Rattle.std.specs.Prelude.{IsSome, map, unwrap_or}
+use Rattle.std.proofs.Common.{◌≡◌, ℕ, List, refl, sym, ap, subst, ◌∙◌, Some, None, Result, Ok, Err}
+use Rattle.std.specs.Prelude.{map}
 use Rattle.tuple_values.specs.Document.{Doc}
 use Rattle.tuple_values.specs.declared.names.NameShards.{NameShards}
 use Rattle.query_syntax.specs.Meaning.{IsReadable}
@@ -9,6 +9,7 @@ use Rattle.query_syntax.specs.Reading as reading_of
 use Rattle.query_syntax.proofs.AgreementLemmas.{read_of-agrees}
 use Rattle.query_syntax.proofs.CompleteLemmas.{complete}
 use Rattle.shard_versions.specs.declared.cut.CutPart.{CutPart}
+use Rattle.topic_book.specs.declared.topic.TopicKey.{TopicKey}
 use Rattle.exchange_rules.specs.Bindings.{store_course}
 use Rattle.exchange_rules.specs.Calls.{Answered, HasAppended, Stopped}
 use Rattle.exchange_rules.specs.Courses.{Course, ends, and_then, unless_refused}
@@ -22,11 +23,9 @@ use Rattle.exchange_rules.specs.Topics.{Asked, begin_course, binding_for, bound_
 use Rattle.exchange_rules.specs.declared.fault.SiteFault.{SiteFault}
 use Rattle.exchange_rules.specs.declared.fault.SiteFault.TheVariants.{OutOfMemory}
 use Rattle.exchange_rules.proofs.ReachLemmas.{reaches_none, reaches_then}
-use Rattle.expr_types.specs.ExprTree.{ExprTree, TopicParts, node}
-use Rattle.expr_types.specs.Parts.{topic_in}
+use Rattle.expr_types.specs.ExprTree.{ExprTree, TopicParts, node, no_exprs, topic}
 use Rattle.expr_types.specs.Planned.{IsPlanned}
-use Rattle.expr_types.specs.Rules.{IsReadAs, Source, followed, literal, no_source, rule_of, searched}
-use Rattle.update_sink.specs.Topics.{asked_of, no_topic, read_of, topic_in_tree, topic_of}
+use Rattle.update_sink.specs.Topics.{asked_by, asked_of, key_of, read_of}
 use Rattle.update_sink.proofs.BeginLemmas.{begun-later, cut-of, has-begun, may-store-nowhere}
 use Rattle.update_sink.proofs.QuietLemmas.{part_refused, part_stopped, quiet-begin, quiet-read, quiet-source, quiet-store, stopped-quiet, went_on}
 
@@ -110,40 +109,24 @@ module _ {B : Type 0} (old mid late new : Writer) (names : List NameShards) (t :
       (quiet-store SiteFault names t.key (tops_of cut)) (λ f. refl)
       (cut-on names t (λ f. f) follow old mid late before cut a c) s
 
--- the query of a topic is what its text is read as
-read-from : (s : Source) (p : TopicParts) → IsReadAs s → topic_in s ≡ Some p
+-- the query of a planned topic is what its text is read as
+planned-read : (t : ExprTree) (p : TopicParts) → t ≡ node (topic p) no_exprs → IsPlanned t
     → reading_of.read_of p.q_text ≡ Ok p.q
-read-from (searched q) p r e = absurd (cc)
-read-from (literal fields) p r e = absurd (cc)
-read-from (followed q) p r e =
-    let same : q ≡ p = cc in
-    subst (λ (x : TopicParts). reading_of.read_of x.q_text ≡ Ok x.q) same r
-read-from no_source p r e = absurd (cc)
+planned-read t p is w =
+    let planned : IsPlanned (node (topic p) no_exprs) = subst IsPlanned is w in planned.0.1.0
 
-planned-read : (e : ExprTree) (p : TopicParts) → IsPlanned e → topic_in_tree e ≡ Some p
-    → reading_of.read_of p.q_text ≡ Ok p.q
-planned-read (node op inputs) p w e = read-from (rule_of op).source p w.0.1.0 e
-
--- so the query of a planned topic is what its text says
-pub text-says : (e : ExprTree) (p : TopicParts) → IsPlanned e → topic_in_tree e ≡ Some p
+-- so it is what its text says
+pub text-says : (t : ExprTree) (p : TopicParts) → t ≡ node (topic p) no_exprs → IsPlanned t
     → query_of p.q_text ≡ Some p.q
-text-says e p w is =
-    complete p.q_text p.q ((read_of-agrees.clauses p.q_text p.q).0 (planned-read e p w is))
+text-says t p is w =
+    complete p.q_text p.q ((read_of-agrees.clauses p.q_text p.q).0 (planned-read t p is w))
 
 -- and can be read
-pub text-readable : (e : ExprTree) (p : TopicParts) → IsPlanned e → topic_in_tree e ≡ Some p
+pub text-readable : (t : ExprTree) (p : TopicParts) → t ≡ node (topic p) no_exprs → IsPlanned t
     → IsReadable p.q_text
 unfolding IsReadable
-text-readable e p w is =
-    (p.q, (read_of-agrees.clauses p.q_text p.q).0 (planned-read e p w is))
-
--- the topic that an expression is
-pub topic-is : (e : ExprTree) → IsSome (topic_in_tree e) → topic_in_tree e ≡ Some (topic_of e)
-topic-is e some = go (topic_in_tree e) some
-  where
-    go : (o : Option TopicParts) → IsSome o → o ≡ Some (unwrap_or o no_topic)
-    go None s = absurd (cc)
-    go (Some p) s = refl
+text-readable t p is w =
+    (p.q, (read_of-agrees.clauses p.q_text p.q).0 (planned-read t p is w))
 
 -- what is told of a topic that is read
 pub read-told : (p : TopicParts) (before tops : List ℕ) (cut : List CutPart) (tuples : List Doc)
@@ -156,68 +139,75 @@ read-told p before tops cut tuples items e f is =
     let tuples_is = sym (f ∙ ap (map (λ (i : TopicItem). i.document)) is) in
     λ i. record { cut = cut; before = before; stored = tops_is i; tuples = tuples_is i }
 
-module _ (w w1 : Writer) (names : List NameShards) (p : TopicParts) (t : Asked)
-    (is : t ≡ asked_of p None) where
-  -- the course of a topic that is read
+module _ (w w1 : Writer) (names : List NameShards) (p : TopicParts) (key : TopicKey)
+    (own : key ≡ key_of p) where
+  -- what a topic that is read asks for
+  abbrev asked : Asked
+  asked = asked_of p None
+
+  -- its course
   abbrev reading : Course (Result TopicRead SiteFault)
-  reading = read_course names (asked_of p None) (read_of p)
+  reading = read_course names asked (read_of p)
+
+  -- how it begins under a key
+  abbrev begin : TopicKey → Course (Result (List ℕ) SiteFault)
+  begin k = begin_course names (asked_by k p None)
 
   -- where it didn't begin
-  pub unbegun : (fault : SiteFault) → Answered w w1 (begin_course names t) (Err fault)
+  pub unbegun : (fault : SiteFault) → Answered w w1 (begin key) (Err fault)
       → Answered w w1 reading (Err fault)
   unbegun fault a =
-      subst (λ (x : Asked). Answered w w1 (read_course names x (read_of p)) (Err fault)) is
-      (read-unbegun w w w w1 names t (read_of p) fault a)
+      read-unbegun w w w w1 names asked (read_of p) fault
+      (subst (λ k. Answered w w1 (begin k) (Err fault)) own a)
 
   module _ (w2 : Writer) (others : List NameShards) (same : others ≡ names) (before : List ℕ)
-      (a : Answers w w1 (begin_course names t) (Ok before)) where
+      (a : Answers w w1 (begin key) (Ok before)) where
+    -- it began
+    began : Answers w w1 (begin_course names asked) (Ok before)
+    began = subst (λ k. Answers w w1 (begin k) (Ok before)) own a
+
     -- where its source couldn't be read
-    pub uncut : (fault : SiteFault) → Stopped w1 w2 (source_course others t.src) fault
+    pub uncut : (fault : SiteFault) → Stopped w1 w2 (source_course others p.collection) fault
         → Answered w w2 reading (Err fault)
     uncut fault s =
-        subst (λ (x : Asked). Answered w w2 (read_course names x (read_of p)) (Err fault)) is
-        (read-uncut w w1 w1 w2 names t (read_of p) before fault a
-        (subst (λ ns. Stopped w1 w2 (source_course ns t.src) fault) same s))
+        read-uncut w w1 w1 w2 names asked (read_of p) before fault began
+        (subst (λ ns. Stopped w1 w2 (source_course ns p.collection) fault) same s)
 
     module _ (cut : List CutPart)
-        (c : HasAppended w1 w2 (source_course others t.src) (ends cut) 0) where
+        (c : HasAppended w1 w2 (source_course others p.collection) (ends cut) 0) where
       -- its source was read
-      source-read : Answers w1 w2 (source_course names t.src) cut
+      source-read : Answers w1 w2 (source_course names p.collection) cut
       source-read =
-          subst (λ ns. Answers w1 w2 (source_course ns t.src) cut) same c.reached
+          subst (λ ns. Answers w1 w2 (source_course ns p.collection) cut) same c.reached
 
       -- memory was wanting then
       pub unread : Answered w w2 reading (Err (OutOfMemory 0))
       unread =
-          subst (λ (x : Asked). Answered w w2 (read_course names x (read_of p))
-          (Err (OutOfMemory 0))) is
-          (read-wanting w w1 w1 w2 names t (read_of p) _
-          (cut-on names t (λ f. f)
-          (cut_then_store names t (λ before cut. ends (Ok (read_of p before cut)))
-          (λ before cut a. a)) w w1 w2 before cut a source-read))
+          read-wanting w w1 w1 w2 names asked (read_of p) _
+          (cut-on names asked (λ f. f)
+          (cut_then_store names asked (λ before cut. ends (Ok (read_of p before cut)))
+          (λ before cut a. a)) w w1 w2 before cut began source-read)
 
       module _ (w3 : Writer) (more : List NameShards) (still : more ≡ others) (upto : List ℕ)
           (tops : upto ≡ tops_of cut) where
         -- its tops may be stored
-        pub may-read : MayStore more (histories_in more w2.seen) t.key upto
+        pub may-read : MayStore more (histories_in more w2.seen) key upto
         may-read =
-            let begun = has-begun w w1 names t before a in
-            let later = begun-later names w1.seen w2.seen t.key (binding_for t begun.init) before
-            c.reached.grown begun.begun in
-            let nowhere : (binding_for t begun.init).dest ≡ None =
-            ap (λ (x : Asked). x.dest) is in
-            let may = may-store-nowhere names w2.seen t.key (binding_for t begun.init) before cut
-            nowhere later (cut-of w1 w2 names t.src cut source-read) in
-            subst (λ ns. MayStore ns (histories_in ns w2.seen) t.key upto) (sym (still ∙ same))
-            (subst (MayStore names (histories_in names w2.seen) t.key) (sym tops) may)
+            let begun = has-begun w w1 names asked before began in
+            let later = begun-later names w1.seen w2.seen asked.key (binding_for asked begun.init)
+            before c.reached.grown begun.begun in
+            let may = may-store-nowhere names w2.seen asked.key (binding_for asked begun.init)
+            before cut refl later (cut-of w1 w2 names p.collection cut source-read) in
+            subst (λ ns. MayStore ns (histories_in ns w2.seen) key upto) (sym (still ∙ same))
+            (subst (λ k. MayStore names (histories_in names w2.seen) k upto) (sym own)
+            (subst (MayStore names (histories_in names w2.seen) asked.key) (sym tops) may))
 
         -- they were, or memory was wanting
         pub read-done : (r : Result (Unit {0}) SiteFault)
-            → Answered w2 w3 (store_course more t.key upto) r
+            → Answered w2 w3 (store_course more key upto) r
             → Answered w w3 reading (once_stored r (read_of p before cut))
         read-done r s =
-            subst (λ (x : Asked). Answered w w3 (read_course names x (read_of p))
-            (once_stored r (read_of p before cut))) is
-            (read-stored w w1 w2 w3 names t (read_of p) before cut r a source-read
-            (subst (λ u. Answered w2 w3 (store_course names t.key u) r) tops
-            (subst (λ ns. Answered w2 w3 (store_course ns t.key upto) r) (still ∙ same) s)))
+            let s1 = subst (λ ns. Answered w2 w3 (store_course ns key upto) r) (still ∙ same) s in
+            let s2 = subst (λ k. Answered w2 w3 (store_course names k upto) r) own s1 in
+            read-stored w w1 w2 w3 names asked (read_of p) before cut r began source-read
+            (subst (λ u. Answered w2 w3 (store_course names asked.key u) r) tops s2)

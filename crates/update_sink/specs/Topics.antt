@@ -1,20 +1,16 @@
--- The topics that an expression follows: what they ask for, what is delivered of their documents, and
+-- The topics that are read and delivered: what they ask for, what is delivered of their documents, and
 -- what is told of them (Solr Reference Guide, "Stream Source Reference", topic, and "Stream Decorator
 -- Reference", update; how a delivered document tells its origin is own).
-use Rattle.std.specs.Prelude.{ℕ, ◌<◌, List, [], map, pos, Option, None, option_map, unwrap_or}
+use Rattle.std.specs.Prelude.{ℕ, ◌≢◌, ◌<◌, List, map, pos, Option}
 use Rattle.tuple_values.specs.Document.{ByteList, Doc, long, text, put, without}
 use Rattle.tuple_values.specs.declared.names.NameShards.{NameShards}
 use Rattle.shard_versions.specs.Documents.{source_name, source_version_name, version_name}
 use Rattle.shard_versions.specs.declared.cut.CutPart.{CutPart}
 use Rattle.topic_book.specs.Fitness.{shards_of}
 use Rattle.topic_book.specs.declared.topic.TopicKey.{TopicKey}
-use Rattle.expr_types.specs.ExprTree.{Operator, search, tuple, select, having, sort, top, unique}
-use Rattle.expr_types.specs.ExprTree.{merge, reduce, rollup, inner_join, left_outer_join, intersect}
-use Rattle.expr_types.specs.ExprTree.{complement, hash_join, outer_hash_join, in_parallel, topic}
-use Rattle.expr_types.specs.ExprTree.{update, commit, daemon, TopicParts}
-use Rattle.expr_types.specs.ExprTree.{ExprTree, node, ExprTrees, no_exprs, an_expr, operator_in}
-use Rattle.expr_types.specs.Parts.{topic_in}
-use Rattle.expr_types.specs.Rules.{rule_of}
+use Rattle.expr_types.specs.ExprTree.{TopicParts}
+use Rattle.expr_check.specs.Roots.{topic_parts, IsTopicOf}
+use Rattle.expr_check.specs.Views.{tree_of}
 use Rattle.source_streams.specs.Batches.{topic_items}
 use Rattle.source_streams.specs.declared.batch.TopicItem.{TopicItem}
 use Rattle.exchange_rules.specs.Batches.{Sunk, batches_of}
@@ -22,14 +18,7 @@ use Rattle.exchange_rules.specs.Topics.{Asked, tops_of}
 use Rattle.exchange_rules.specs.declared.batch.BatchItem.{BatchItem}
 use Rattle.exchange_rules.specs.declared.run.TopicRead.{TopicRead}
 use Rattle.exchange_rules.specs.declared.run.TopicRun.{TopicRun}
-
--- the topic that an operator is
-abbrev pub topic_at : Operator → Option TopicParts
-topic_at op = topic_in (rule_of op).source
-
--- the topic that an expression is
-abbrev pub topic_in_tree : ExprTree → Option TopicParts
-topic_in_tree t = topic_at (operator_in t)
+use Rattle.update_sink.specs.declared.delivering.Delivery.{Delivery}
 
 -- an update of a topic: the topic, its destination, and how many documents are in a batch
 pub record Sink : Type 0 where
@@ -37,74 +26,34 @@ pub record Sink : Type 0 where
   pub dest : ByteList
   pub size : ℕ
 
--- the topic that the first of several expressions is
-abbrev pub first_topic : ExprTrees → Option TopicParts
-first_topic no_exprs = None
-first_topic (an_expr e exprs) = topic_in_tree e
+-- the update that a delivery is
+abbrev pub sink_of : Delivery → Sink
+sink_of d = record { topic = topic_parts d.topic; dest = d.dest.now; size = d.batch_size }
 
--- the update of a topic that an operator is over these inputs
-abbrev pub sink_at : Operator → ExprTrees → Option Sink
-sink_at (search p) inputs = None
-sink_at (tuple fields) inputs = None
-sink_at (select items) inputs = None
-sink_at (having condition) inputs = None
-sink_at (sort by) inputs = None
-sink_at (top n by) inputs = None
-sink_at (unique over) inputs = None
-sink_at (merge on) inputs = None
-sink_at (reduce by op) inputs = None
-sink_at (rollup over metrics) inputs = None
-sink_at (inner_join on) inputs = None
-sink_at (left_outer_join on) inputs = None
-sink_at (intersect on) inputs = None
-sink_at (complement on) inputs = None
-sink_at (hash_join on) inputs = None
-sink_at (outer_hash_join on) inputs = None
-sink_at (in_parallel collection workers by) inputs = None
-sink_at (topic p) inputs = None
-sink_at (update dest size) inputs =
-    option_map (λ p. record { topic = p; dest = dest; size = size }) (first_topic inputs)
-sink_at (commit dest size) inputs = None
-sink_at (daemon id interval terminate) inputs = None
-
--- the update of a topic that an expression is
-abbrev pub sink_in_tree : ExprTree → Option Sink
-sink_in_tree (node op inputs) = sink_at op inputs
-
--- a topic of no name, for expressions that are none
-abbrev pub no_topic : TopicParts
-no_topic = record {
-  checkpoints = [];
-  collection = [];
-  id = [];
-  q = [];
-  q_text = [];
-  fl = [];
-  init = None;
-}
-
--- the topic that an expression is
-abbrev pub topic_of : ExprTree → TopicParts
-topic_of t = unwrap_or (topic_in_tree t) no_topic
-
--- the update of a topic that an expression is
-abbrev pub sink_of : ExprTree → Sink
-sink_of t = unwrap_or (sink_in_tree t) (record { topic = no_topic; dest = []; size = 0 })
+-- it is of a checked topic of another collection than its destination, and its batches aren't empty
+pub record IsCheckedDelivery (d : Delivery) : Type 0 where
+  pub topic : IsTopicOf (tree_of d.input.now) d.topic
+  pub elsewhere : d.topic.collection.now ≢ d.dest.now
+  pub filled : 0 < d.batch_size
 
 -- the key of a topic
 abbrev pub key_of : TopicParts → TopicKey
 key_of p = record { checkpoints = p.checkpoints; id = p.id }
 
--- what a topic asks for, with this destination, if any
-abbrev pub asked_of : TopicParts → Option ByteList → Asked
-asked_of p dest = record {
-  key = key_of p;
+-- what a topic asks for under this key, with this destination, if any
+abbrev pub asked_by : TopicKey → TopicParts → Option ByteList → Asked
+asked_by key p dest = record {
+  key = key;
   src = p.collection;
   q = p.q_text;
   fields = p.fl;
   dest = dest;
   init = p.init;
 }
+
+-- and under its own
+abbrev pub asked_of : TopicParts → Option ByteList → Asked
+asked_of p dest = asked_by (key_of p) p dest
 
 -- the collections of a topic have shards
 pub record IsThere (names : List NameShards) (p : TopicParts) : Type 0 where

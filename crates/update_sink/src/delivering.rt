@@ -13,15 +13,25 @@ ghost use Rattle.update_sink.specs.Runs.{IsRun};
 ghost use Rattle.update_sink.specs.Sends.{IsSent, send_of, sunk_done, told_of};
 ghost use Rattle.update_sink.specs.Topics.{sent_item};
 
-use crate::asking::Ask;
 use crate::parts::{behind, front};
 use crate::progress::{Progress, number, sum, told};
 use exchange_rules::{Batch, BatchItem, SiteFault, TopicFault};
+use expr_check::{Checked, TopicRoot};
 use io_edge::{Gate, Point};
 use source_streams::TopicItem;
 use std::alloc::Global;
 use stream_site::{Turns, send_over};
 use tuple_values::{Memory, Text, TryCopy, Tuples, Value};
+
+/// An update of a topic: what the topic gives, which is the input, is delivered to `dest`, in batches
+/// of so many documents.
+#[derive(Clone, Copy)]
+pub struct Delivery<'a> {
+    pub topic: TopicRoot<'a>,
+    pub input: &'a Checked,
+    pub dest: &'a Text,
+    pub batch_size: u64,
+}
 
 /// What is told of all batches: how many documents they had, and how many of their writes stand.
 #[derive(Drop)]
@@ -64,20 +74,20 @@ fn batch_of(alloc: Global, src: &Text, items: &[TopicItem]) -> Result<Batch, Mem
 fn send_batch<T: Turns>(
     alloc: Global,
     site: &mut T,
-    dest: &Text,
-    ask: &Ask,
+    delivery: &Delivery<'_>,
     items: &[TopicItem],
     progress: &mut Progress,
 ) -> Result<(), SiteFault>
-    requires known { 0 < shards_of (T.layout site.old).names dest.now }
-    requires elsewhere { ask.now.src ≢ dest.now }
-    requires given { AreGiven (T.layout site.old).names (T.writer site.old).seen ask.now.src
-        ask.now.fields items.now }
+    requires known { 0 < shards_of (T.layout site.old).names delivery.now.dest.now }
+    requires elsewhere { delivery.now.topic.collection.now ≢ delivery.now.dest.now }
+    requires given { AreGiven (T.layout site.old).names (T.writer site.old).seen
+        delivery.now.topic.collection.now delivery.now.topic.fl.now items.now }
     ensures course { IsSent (T.writer site.old) (T.writer site.new)
-        (send_of (T.layout site.old) dest.now ask.now.src (map (sent_item ask.now.src) items.now)
-        (sunk_of progress.old)) (sunk_of progress.new) result }
+        (send_of (T.layout site.old) delivery.now.dest.now delivery.now.topic.collection.now
+        (map (sent_item delivery.now.topic.collection.now) items.now) (sunk_of progress.old))
+        (sunk_of progress.new) result }
     ensures there { OnOk result (AreThereNow (T.layout site.old).names (T.writer site.new).seen
-        dest.now ask.now.src items.now) }
+        delivery.now.dest.now delivery.now.topic.collection.now items.now) }
     ensures err { OnErr result (sunk_of progress.new ≡ sunk_of progress.old) }
     ensures fits { IfErr result (λ fault. progress.old.stand + stand_in fault < 2 ^ 64) }
     ensures layout { T.layout site.new ≡ T.layout site.old }
@@ -85,9 +95,10 @@ fn send_batch<T: Turns>(
 {
     let count = items.len() as u64;
     let _most = sum(progress.stand, count)?;
-    let batch = batch_of(alloc, &ask.src, items)?;
+    let src = delivery.topic.collection;
+    let batch = batch_of(alloc, src, items)?;
     let told = progress.prepare(alloc, count)?;
-    let sent = send_over(alloc, site, dest, &ask.src, batch)?;
+    let sent = send_over(alloc, site, delivery.dest, src, batch)?;
     progress.add_told(told, count, sent.admitted);
     Ok(())
 }
@@ -142,35 +153,34 @@ fn make_done(alloc: Global, progress: Progress) -> Result<Done, TopicFault>
 pub(crate) fn deliver_all<T: Turns, G: Gate>(
     alloc: Global,
     site: &mut T,
-    dest: &Text,
-    size: u64,
-    ask: &Ask,
+    delivery: &Delivery<'_>,
     items: &[TopicItem],
     gate: &G,
 ) -> Result<Done, TopicFault>
-    requires known { 0 < shards_of (T.layout site.old).names dest.now }
-    requires elsewhere { ask.now.src ≢ dest.now }
-    requires size { 0 < size }
-    requires given { AreGiven (T.layout site.old).names (T.writer site.old).seen ask.now.src
-        ask.now.fields items.now }
+    requires known { 0 < shards_of (T.layout site.old).names delivery.now.dest.now }
+    requires elsewhere { delivery.now.topic.collection.now ≢ delivery.now.dest.now }
+    requires size { 0 < delivery.now.batch_size }
+    requires given { AreGiven (T.layout site.old).names (T.writer site.old).seen
+        delivery.now.topic.collection.now delivery.now.topic.fl.now items.now }
     ensures course { IsRun (T.writer site.old) (T.writer site.new)
-        (sends_course (T.layout site.old) dest.now ask.now.src none_sunk
-        (batches_of size (map (sent_item ask.now.src) items.now))) (told_of result) }
+        (sends_course (T.layout site.old) delivery.now.dest.now delivery.now.topic.collection.now
+        none_sunk (batches_of delivery.now.batch_size
+        (map (sent_item delivery.now.topic.collection.now) items.now))) (told_of result) }
     ensures there { OnOk result (AreThereNow (T.layout site.old).names (T.writer site.new).seen
-        dest.now ask.now.src items.now) }
+        delivery.now.dest.now delivery.now.topic.collection.now items.now) }
     ensures layout { T.layout site.new ≡ T.layout site.old }
     ensures home { T.home site.new ≡ T.home site.old }
 {
     let mut progress = Progress::none(alloc);
     let mut rest = items;
     while !rest.is_empty() {
-        let batch = front(rest, size);
+        let batch = front(rest, delivery.batch_size);
         gate.at(Point::BeforeSend);
-        match send_batch(alloc, site, dest, ask, batch, &mut progress) {
+        match send_batch(alloc, site, delivery, batch, &mut progress) {
             Ok(()) => {}
             Err(fault) => return Err(stopped(progress, fault)),
         }
-        rest = behind(rest, size);
+        rest = behind(rest, delivery.batch_size);
     }
     make_done(alloc, progress)
 }

@@ -13,6 +13,7 @@ mod taking;
 mod update;
 
 pub use commit::run_commit;
+pub use delivering::Delivery;
 pub use exchange_rules::{Ran, RunFault, TopicFault, TopicRead, TopicRun};
 pub use reading::read_topic;
 pub use running::run_topic;

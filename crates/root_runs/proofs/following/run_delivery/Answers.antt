@@ -1,7 +1,5 @@
 use Rattle.std.proofs.Common.{◌∙◌, sym}
-use Rattle.expr_check.specs.Roots.{topic_parts}
-use Rattle.expr_check.specs.Views.{tree_of}
-use Rattle.update_sink.specs.Topics.{key_of, sink_of}
+use Rattle.update_sink.specs.Topics.{sink_of}
 use Rattle.root_runs.specs.Dones.{unknown}
 use Rattle.root_runs.specs.Runs.{deliver_course, where_both, where_there}
 use Rattle.root_runs.proofs.CarriedLemmas.{ends_with}
@@ -12,10 +10,9 @@ pub returns-then-not-is_there-clause-course : goal.returns-then-not-is_there-cla
 returns-then-not-is_there-clause-course g c =
     let w = g.T.Turns.writer c.args.site.now in
     let l = g.T.Turns.layout c.args.site.now in
-    let a = c.args.topic.now.checkpoints.now in
-    let b = c.args.topic.now.collection.now in
-    let key = key_of (topic_parts c.args.topic.now) in
-    let p = (deliver_course l key (sink_of (tree_of c.args.checked.now))) in
+    let a = c.args.delivery.now.topic.checkpoints.now in
+    let b = c.args.delivery.now.topic.collection.now in
+    let p = deliver_course l (sink_of c.args.delivery.now) in
     ends_with w (where_both l.names a b p) (unknown a) c.unknown.result
     (there_told l.names a (where_there l.names b p)
     (sym c.is_there.ensures ∙ c.if-not-is_there.true)) c.unknown.ensures
@@ -24,10 +21,9 @@ pub returns-then-not-is_there-2-clause-course : goal.returns-then-not-is_there-2
 returns-then-not-is_there-2-clause-course g c =
     let w = g.T.Turns.writer c.args.site.now in
     let l = g.T.Turns.layout c.args.site.now in
-    let a = c.args.topic.now.checkpoints.now in
-    let b = c.args.topic.now.collection.now in
-    let key = key_of (topic_parts c.args.topic.now) in
-    let p = (deliver_course l key (sink_of (tree_of c.args.checked.now))) in
+    let a = c.args.delivery.now.topic.checkpoints.now in
+    let b = c.args.delivery.now.topic.collection.now in
+    let p = deliver_course l (sink_of c.args.delivery.now) in
     ends_with w (where_both l.names a b p) (unknown b) c.unknown-then-not-is_there-2.result
     (there_done l.names a (where_there l.names b p)
     (sym c.is_there.ensures ∙ c.if-not-is_there.false)

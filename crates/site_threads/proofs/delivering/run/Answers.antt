@@ -1,7 +1,6 @@
 use Rattle.std.proofs.Common.{ap}
 use Rattle.exchange_rules.specs.Rows.{Layout}
 use Rattle.turn_table.specs.Calls.{known}
-use Rattle.expr_check.specs.Views.{tree_of}
 use Rattle.update_sink.specs.Topics.{sink_of}
 use Rattle.running_site.specs.Passes.{writer_in, writer_of}
 use Rattle.running_site.specs.Sites.{layout_at}
@@ -22,5 +21,5 @@ returns-clause-work g c =
     (writer_of c.end.new.pass) (layout_at site) l
     c.visit-visit.ensures.writer c.end.ensures.writer
     (ap (λ s. layout_at s) c.visit-visit.ensures.site)
-    (work-one l IsRun here there (run (sink_of (tree_of c.args.checked.now))) tt
+    (work-one l IsRun here there (run (sink_of c.args.delivery.now)) tt
     (run-begins here there _ c.run_topic-result.result c.run_topic-result.ensures.course))

@@ -18,9 +18,9 @@ pub loop-rest-init : goal.loop-rest-init
 loop-rest-init g c =
     let l = g.T.Turns.layout c.args.site.now in
     let w = g.T.Turns.writer c.args.site.now in
-    let dest = c.args.dest.now in
-    let src = c.args.ask.now.src in
-    let all = batches_of c.args.size (map (sent_item src) c.args.items.now) in
+    let dest = c.args.delivery.now.dest.now in
+    let src = c.args.delivery.now.topic.collection.now in
+    let all = batches_of c.args.delivery.now.batch_size (map (sent_item src) c.args.items.now) in
     let course = sends_course l dest src none_sunk all in
     record {
       same = refl;
@@ -35,19 +35,19 @@ loop-rest-init g c =
 
 pub send_batch-requires-clause-known : goal.send_batch-requires-clause-known
 send_batch-requires-clause-known g c =
-    subst (λ (x : Layout). 0 < shards_of x.names c.args.dest.now)
+    subst (λ (x : Layout). 0 < shards_of x.names c.args.delivery.now.dest.now)
     (sym c.loop-rest.invariant.same) c.requires.known
 
 pub send_batch-requires-clause-given : goal.send_batch-requires-clause-given
 send_batch-requires-clause-given g c =
     let l = g.T.Turns.layout c.args.site.now in
     let mid = g.T.Turns.writer c.loop-rest.site in
-    let src = c.args.ask.now.src in
-    let fields = c.args.ask.now.fields in
+    let src = c.args.delivery.now.topic.collection.now in
+    let fields = c.args.delivery.now.topic.fl.now in
     subst (λ (x : Layout). AreGiven x.names mid.seen src fields c.front-batch.result.now)
     (sym c.loop-rest.invariant.same)
     (subst (AreGiven l.names mid.seen src fields) (sym c.front-batch.ensures)
-    (given-take l.names mid.seen src fields c.args.size c.loop-rest.rest.now
+    (given-take l.names mid.seen src fields c.args.delivery.now.batch_size c.loop-rest.rest.now
     c.loop-rest.invariant.given))
 
 pub returns-in-Err-clause-course : goal.returns-in-Err-clause-course
@@ -56,9 +56,9 @@ returns-in-Err-clause-course g c =
     let w = g.T.Turns.writer c.args.site.now in
     let mid = g.T.Turns.writer c.loop-rest.site in
     let new = g.T.Turns.writer c.send_batch.new.site in
-    let dest = c.args.dest.now in
-    let src = c.args.ask.now.src in
-    let size = c.args.size in
+    let dest = c.args.delivery.now.dest.now in
+    let src = c.args.delivery.now.topic.collection.now in
+    let size = c.args.delivery.now.batch_size in
     let rest = c.loop-rest.rest.now in
     let filled : 0 < length rest = grind (arith, common_steps) in
     let course = sends_course l dest src none_sunk
@@ -83,10 +83,10 @@ loop-rest-preserved g c =
     let w = g.T.Turns.writer c.args.site.now in
     let mid = g.T.Turns.writer c.loop-rest.site in
     let new = g.T.Turns.writer c.send_batch.new.site in
-    let dest = c.args.dest.now in
-    let src = c.args.ask.now.src in
-    let fields = c.args.ask.now.fields in
-    let size = c.args.size in
+    let dest = c.args.delivery.now.dest.now in
+    let src = c.args.delivery.now.topic.collection.now in
+    let fields = c.args.delivery.now.topic.fl.now in
+    let size = c.args.delivery.now.batch_size in
     let rest = c.loop-rest.rest.now in
     let s = sunk_of c.loop-rest.progress in
     let now = sunk_of c.send_batch.new.progress in
@@ -124,9 +124,9 @@ returns-clause-course g c =
     let l = g.T.Turns.layout c.args.site.now in
     let w = g.T.Turns.writer c.args.site.now in
     let mid = g.T.Turns.writer c.loop-rest.site in
-    let dest = c.args.dest.now in
-    let src = c.args.ask.now.src in
-    let size = c.args.size in
+    let dest = c.args.delivery.now.dest.now in
+    let src = c.args.delivery.now.topic.collection.now in
+    let size = c.args.delivery.now.batch_size in
     let rest = c.loop-rest.rest.now in
     let none : length rest ≡ 0 = grind (arith, common_steps) in
     let course = sends_course l dest src none_sunk
@@ -140,8 +140,8 @@ pub returns-clause-there : goal.returns-clause-there
 returns-clause-there g c =
     let l = g.T.Turns.layout c.args.site.now in
     let mid = g.T.Turns.writer c.loop-rest.site in
-    let dest = c.args.dest.now in
-    let src = c.args.ask.now.src in
+    let dest = c.args.delivery.now.dest.now in
+    let src = c.args.delivery.now.topic.collection.now in
     let rest = c.loop-rest.rest.now in
     let none : length rest ≡ 0 = grind (arith, common_steps) in
     there-all l.names mid.seen dest src c.args.items.now c.loop-rest.invariant.front rest

@@ -14,19 +14,20 @@ invariant-loop-rest g l =
     let layout = g.T.Turns.layout l.fn.site in
     let w = g.T.Turns.writer l.fn.site in
     let now = g.T.Turns.writer l.site in
-    let src = l.ask.src in
+    let dest = l.delivery.dest.now in
+    let src = l.delivery.topic.collection.now in
     record {
       same : g.T.Turns.layout l.site ≡ layout;
       home : g.T.Turns.home l.site ≡ g.T.Turns.home l.fn.site;
       reached : Reaches w now
-          (sends_course layout l.dest src none_sunk
-          (batches_of l.size (map (sent_item src) l.items)))
-          (sends_course layout l.dest src (sunk_of l.progress)
-          (batches_of l.size (map (sent_item src) l.rest)));
-      given : AreGiven layout.names now.seen src l.ask.fields l.rest;
+          (sends_course layout dest src none_sunk
+          (batches_of l.delivery.batch_size (map (sent_item src) l.items)))
+          (sends_course layout dest src (sunk_of l.progress)
+          (batches_of l.delivery.batch_size (map (sent_item src) l.rest)));
+      given : AreGiven layout.names now.seen src l.delivery.topic.fl.now l.rest;
       front : List TopicItem;
       whole : l.items ≡ front ++ l.rest;
-      there : AreThereNow layout.names now.seen l.dest src front;
+      there : AreThereNow layout.names now.seen dest src front;
     }
 
 abbrev pub decreases-loop-rest : goal.decreases-loop-rest

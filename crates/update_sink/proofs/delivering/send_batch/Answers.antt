@@ -22,9 +22,10 @@ pub returns-in_err-batch-clause-course : goal.returns-in_err-batch-clause-course
 returns-in_err-batch-clause-course g c =
     let w = g.T.Turns.writer c.args.site.now in
     let l = g.T.Turns.layout c.args.site.now in
-    let src = c.args.ask.now.src in
+    let src = c.args.delivery.now.topic.collection.now in
     let s = sunk_of c.args.progress.now in
-    let batch = send_of l c.args.dest.now src (map (sent_item src) c.args.items.now) s in
+    let dest = c.args.delivery.now.dest.now in
+    let batch = send_of l dest src (map (sent_item src) c.args.items.now) s in
     handed_on (IsSent w w batch s) _ _ c.from_residual-in_err-batch.ensures.1
     (unsent-none w batch s)
 
@@ -32,14 +33,14 @@ pub send_over-requires : goal.send_over-requires
 send_over-requires g c =
     let names = (g.T.Turns.layout c.args.site.now).names in
     let seen = (g.T.Turns.writer c.args.site.now).seen in
-    let dest = c.args.dest.now in
-    let src = c.args.ask.now.src in
+    let dest = c.args.delivery.now.dest.now in
+    let src = c.args.delivery.now.topic.collection.now in
     record {
       known = c.requires.known;
       elsewhere = c.requires.elsewhere;
       items = subst (AllByRecursion (IsItem names seen dest src))
           (sym c.in_ok-batch.ensures.batch)
-          (items-of names seen dest src c.args.ask.now.fields c.args.items.now
+          (items-of names seen dest src c.args.delivery.now.topic.fl.now c.args.items.now
           c.requires.given c.in_ok-batch.ensures.rise);
     }
 
@@ -47,9 +48,10 @@ pub returns-in_err-_most-clause-course : goal.returns-in_err-_most-clause-course
 returns-in_err-_most-clause-course g c =
     let w = g.T.Turns.writer c.args.site.now in
     let l = g.T.Turns.layout c.args.site.now in
-    let src = c.args.ask.now.src in
+    let src = c.args.delivery.now.topic.collection.now in
     let s = sunk_of c.args.progress.now in
-    let batch = send_of l c.args.dest.now src (map (sent_item src) c.args.items.now) s in
+    let dest = c.args.delivery.now.dest.now in
+    let batch = send_of l dest src (map (sent_item src) c.args.items.now) s in
     handed_on (IsSent w w batch s) _ _ c.from_residual.ensures.1
     (unsent-none w batch s)
 
@@ -57,10 +59,11 @@ pub returns-in_err-told-clause-course : goal.returns-in_err-told-clause-course
 returns-in_err-told-clause-course g c =
     let w = g.T.Turns.writer c.args.site.now in
     let l = g.T.Turns.layout c.args.site.now in
-    let src = c.args.ask.now.src in
+    let src = c.args.delivery.now.topic.collection.now in
     let s = sunk_of c.args.progress.now in
     let now = sunk_of c.prepare.new.self in
-    let batch = send_of l c.args.dest.now src (map (sent_item src) c.args.items.now) s in
+    let dest = c.args.delivery.now.dest.now in
+    let batch = send_of l dest src (map (sent_item src) c.args.items.now) s in
     handed_on (IsSent w w batch now) _ _ c.from_residual-in_err-told.ensures.1
     (unsent-none w batch now)
 
@@ -69,8 +72,8 @@ returns-in_err-sent-clause-course g c =
     let w = g.T.Turns.writer c.args.site.now in
     let new = g.T.Turns.writer c.send_over.new.site in
     let l = g.T.Turns.layout c.args.site.now in
-    let dest = c.args.dest.now in
-    let src = c.args.ask.now.src in
+    let dest = c.args.delivery.now.dest.now in
+    let src = c.args.delivery.now.topic.collection.now in
     let b = map (sent_item src) c.args.items.now in
     let s = sunk_of c.args.progress.now in
     let now = sunk_of c.prepare.new.self in
@@ -84,8 +87,8 @@ returns-clause-course g c =
     let w = g.T.Turns.writer c.args.site.now in
     let new = g.T.Turns.writer c.send_over.new.site in
     let l = g.T.Turns.layout c.args.site.now in
-    let dest = c.args.dest.now in
-    let src = c.args.ask.now.src in
+    let dest = c.args.delivery.now.dest.now in
+    let src = c.args.delivery.now.topic.collection.now in
     let s = sunk_of c.args.progress.now in
     let items = c.args.items.now in
     let b = map (sent_item src) items in
@@ -103,8 +106,8 @@ returns-clause-there g c =
     let w = g.T.Turns.writer c.args.site.now in
     let new = g.T.Turns.writer c.send_over.new.site in
     let l = g.T.Turns.layout c.args.site.now in
-    let dest = c.args.dest.now in
-    let src = c.args.ask.now.src in
+    let dest = c.args.delivery.now.dest.now in
+    let src = c.args.delivery.now.topic.collection.now in
     let r = c.in_ok-sent.ensures.course in
     subst (AllByRecursion (IsThereNow l.names new.seen dest src)) c.in_ok-batch.ensures.batch
     (sent-there w.me new.seen (counts w.seen) l dest src c.in_ok-batch.batch r.accesses
@@ -116,9 +119,10 @@ returns-in_err-sent-clause-fits g c =
     let new = g.T.Turns.writer c.send_over.new.site in
     let l = g.T.Turns.layout c.args.site.now in
     let batch = c.in_ok-batch.batch in
-    let few = refused-few l c.args.dest.now c.args.ask.now.src batch c.requires.known w new _
+    let src = c.args.delivery.now.topic.collection.now in
+    let few = refused-few l c.args.delivery.now.dest.now src batch c.requires.known w new _
     c.in_err-sent.ensures.course in
-    let long = made-length c.args.ask.now.src c.args.items.now batch c.in_ok-batch.ensures.batch in
+    let long = made-length src c.args.items.now batch c.in_ok-batch.ensures.batch in
     let most = c.in_ok-_most.ensures in
     handed_on (λ r. IfErr r (λ f. c.args.progress.now.stand + stand_in f < 2 ^ 64)) _ _
     c.from_residual-in_err-sent.ensures.1 (omega (arith, few, long, most))
@@ -140,9 +144,10 @@ add_told-requires-clause-stand g c =
     let new = g.T.Turns.writer c.send_over.new.site in
     let l = g.T.Turns.layout c.args.site.now in
     let batch = c.in_ok-batch.batch in
-    let few = sent-few l c.args.dest.now c.args.ask.now.src batch c.requires.known w new
+    let src = c.args.delivery.now.topic.collection.now in
+    let few = sent-few l c.args.delivery.now.dest.now src batch c.requires.known w new
     c.in_ok-sent.sent c.in_ok-sent.ensures.course in
-    let long = made-length c.args.ask.now.src c.args.items.now batch c.in_ok-batch.ensures.batch in
+    let long = made-length src c.args.items.now batch c.in_ok-batch.ensures.batch in
     let same = ap (λ (x : Sunk). x.stand) c.in_ok-told.ensures.same in
     let most = c.in_ok-_most.ensures in
     omega (arith, few, long, same, most)

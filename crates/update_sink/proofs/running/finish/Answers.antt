@@ -23,40 +23,42 @@ use Rattle.update_sink.proofs.running.finish.Goals as goal
 
 pub returns-in-Err-clause-course : goal.returns-in-Err-clause-course
 returns-in-Err-clause-course g c =
+    let delivery = c.args.delivery.now in
     let l = g.T.Turns.layout c.args.site.now in
     let w = g.T.Turns.writer c.args.site.now in
     let taken = c.args.taken in
-    let answer : Sunk → TopicRun = run_at c.args.before taken.cut taken.tops in
-    unstarted w w w l c.args.ask.now.key c.args.dest.now c.args.ask.now.src c.args.size
-    taken.items taken.tops answer c.halted.result c.halted.ensures
+    let answer : Sunk → TopicRun = run_at taken.before taken.cut taken.tops in
+    unstarted w w w l c.args.key.now delivery.dest.now delivery.topic.collection.now
+    delivery.batch_size taken.items taken.tops answer c.halted.result c.halted.ensures
 
 pub returns-in_err-done-clause-course : goal.returns-in_err-done-clause-course
 returns-in_err-done-clause-course g c =
     let l = g.T.Turns.layout c.args.site.now in
     let w = g.T.Turns.writer c.args.site.now in
     let mid = g.T.Turns.writer c.deliver_all.new.site in
-    let key = c.args.ask.now.key in
-    let dest = c.args.dest.now in
-    let src = c.args.ask.now.src in
+    let key = c.args.key.now in
+    let dest = c.args.delivery.now.dest.now in
+    let src = c.args.delivery.now.topic.collection.now in
     let taken = c.args.taken in
-    let answer : Sunk → TopicRun = run_at c.args.before taken.cut taken.tops in
+    let answer : Sunk → TopicRun = run_at taken.before taken.cut taken.tops in
     handed_on (IsRun w mid
-    (finish_course l key dest src c.args.size taken.items taken.tops answer)) _ _
+    (finish_course l key dest src c.args.delivery.now.batch_size taken.items taken.tops answer)) _ _
     c.from_residual.ensures.1
-    (undelivered w mid mid l key dest src c.args.size taken.items taken.tops answer
+    (undelivered w mid mid l key dest src c.args.delivery.now.batch_size taken.items taken.tops answer
     c.as_slice.result.now c.as_slice.ensures _ c.in_err-done.ensures.course)
 
 pub returns-in-Ok-store_topic_over-clause-course
     : goal.returns-in-Ok-store_topic_over-clause-course
 returns-in-Ok-store_topic_over-clause-course g c =
+    let delivery = c.args.delivery.now in
     let l = g.T.Turns.layout c.args.site.now in
     let w = g.T.Turns.writer c.args.site.now in
     let mid = g.T.Turns.writer c.deliver_all.new.site in
     let new = g.T.Turns.writer c.store_topic_over.new.site in
     let taken = c.args.taken in
-    let answer : Sunk → TopicRun = run_at c.args.before taken.cut taken.tops in
-    finished w mid new l c.args.ask.now.key c.args.dest.now c.args.ask.now.src c.args.size
-    taken.items taken.tops answer c.as_slice.result.now c.as_slice.ensures
+    let answer : Sunk → TopicRun = run_at taken.before taken.cut taken.tops in
+    finished w mid new l c.args.key.now delivery.dest.now delivery.topic.collection.now
+    delivery.batch_size taken.items taken.tops answer c.as_slice.result.now c.as_slice.ensures
     (g.T.Turns.layout c.deliver_all.new.site).names c.in-Ok.upto (sunk_done c.in_ok-done.done)
     (ap (λ (x : Layout). x.names) c.in_ok-done.ensures.layout) c.in-Ok.ensures
     c.in_ok-done.ensures.course c.in-Ok-store_topic_over.ensures.course
@@ -64,31 +66,33 @@ returns-in-Ok-store_topic_over-clause-course g c =
 pub returns-in-Err-store_topic_over-clause-course
     : goal.returns-in-Err-store_topic_over-clause-course
 returns-in-Err-store_topic_over-clause-course g c =
+    let delivery = c.args.delivery.now in
     let l = g.T.Turns.layout c.args.site.now in
     let w = g.T.Turns.writer c.args.site.now in
     let mid = g.T.Turns.writer c.deliver_all.new.site in
     let new = g.T.Turns.writer c.store_topic_over.new.site in
     let taken = c.args.taken in
-    let answer : Sunk → TopicRun = run_at c.args.before taken.cut taken.tops in
+    let answer : Sunk → TopicRun = run_at taken.before taken.cut taken.tops in
     let told : TopicFault = record {
       summaries = c.in_ok-done.done.summaries;
       stand = c.in_ok-done.done.stand;
       fault = c.in-Err-store_topic_over.fault;
     } in
-    unfinished w mid new l c.args.ask.now.key c.args.dest.now c.args.ask.now.src c.args.size
-    taken.items taken.tops answer c.as_slice.result.now c.as_slice.ensures
+    unfinished w mid new l c.args.key.now delivery.dest.now delivery.topic.collection.now
+    delivery.batch_size taken.items taken.tops answer c.as_slice.result.now c.as_slice.ensures
     (g.T.Turns.layout c.deliver_all.new.site).names c.in-Ok.upto (sunk_done c.in_ok-done.done) told
     (ap (λ (x : Layout). x.names) c.in_ok-done.ensures.layout) c.in-Ok.ensures (λ s. refl) refl
     c.in_ok-done.ensures.course c.in-Err-store_topic_over.ensures.course
 
 pub store_topic_over-requires : goal.store_topic_over-requires
 store_topic_over-requires g c =
+    let delivery = c.args.delivery.now in
     let l = g.T.Turns.layout c.args.site.now in
     let mid = g.T.Turns.writer c.deliver_all.new.site in
-    let key = c.args.ask.now.key in
+    let key = c.args.key.now in
     let may = c.requires.may.storable mid.seen c.in_ok-done.ensures.course.grown
-    (subst (AreThereNow l.names mid.seen c.args.dest.now c.args.ask.now.src) c.as_slice.ensures
-    c.in_ok-done.ensures.there) in
+    (subst (AreThereNow l.names mid.seen delivery.dest.now delivery.topic.collection.now)
+    c.as_slice.ensures c.in_ok-done.ensures.there) in
     subst (λ (x : Layout). MayStore x.names (histories_in x.names mid.seen) key c.in-Ok.upto)
     (sym c.in_ok-done.ensures.layout)
     (subst (MayStore l.names (histories_in l.names mid.seen) key) (sym c.in-Ok.ensures) may)
@@ -99,13 +103,14 @@ returns-in-Ok-store_topic_over-clause-told g c =
 
 pub returns-in-Ok-store_topic_over-clause-there : goal.returns-in-Ok-store_topic_over-clause-there
 returns-in-Ok-store_topic_over-clause-there g c =
+    let delivery = c.args.delivery.now in
     let l = g.T.Turns.layout c.args.site.now in
     let mid = g.T.Turns.writer c.deliver_all.new.site in
     let new = g.T.Turns.writer c.store_topic_over.new.site in
-    there-later l.names mid.seen new.seen c.args.dest.now c.args.ask.now.src c.args.taken.items
-    c.in-Ok-store_topic_over.ensures.course.grown
-    (subst (AreThereNow l.names mid.seen c.args.dest.now c.args.ask.now.src) c.as_slice.ensures
-    c.in_ok-done.ensures.there)
+    there-later l.names mid.seen new.seen delivery.dest.now delivery.topic.collection.now
+    c.args.taken.items c.in-Ok-store_topic_over.ensures.course.grown
+    (subst (AreThereNow l.names mid.seen delivery.dest.now delivery.topic.collection.now)
+    c.as_slice.ensures c.in_ok-done.ensures.there)
 
 pub returns-in-Ok-store_topic_over-clause-reached
     : goal.returns-in-Ok-store_topic_over-clause-reached
@@ -114,7 +119,7 @@ returns-in-Ok-store_topic_over-clause-reached g c =
     let there = g.T.Turns.layout c.deliver_all.new.site in
     let mid = g.T.Turns.writer c.deliver_all.new.site in
     let new = g.T.Turns.writer c.store_topic_over.new.site in
-    let key = c.args.ask.now.key in
+    let key = c.args.key.now in
     let reached : promised.HasReached there.names new.seen key c.in-Ok.upto =
     store-reaches mid new there.names key c.in-Ok.upto c.in-Ok-store_topic_over.ensures.course in
     subst (promised.HasReached l.names new.seen key) c.in-Ok.ensures
@@ -126,9 +131,10 @@ returns-in_err-done-clause-unstored g c =
     let l = g.T.Turns.layout c.args.site.now in
     let w = g.T.Turns.writer c.args.site.now in
     let mid = g.T.Turns.writer c.deliver_all.new.site in
-    let dest = c.args.dest.now in
-    let src = c.args.ask.now.src in
-    let batches = batches_of c.args.size (map (sent_item src) c.as_slice.result.now) in
+    let dest = c.args.delivery.now.dest.now in
+    let src = c.args.delivery.now.topic.collection.now in
+    let batches = batches_of c.args.delivery.now.batch_size
+    (map (sent_item src) c.as_slice.result.now) in
     let course = sends_course l dest src none_sunk batches in
     let h = stopped-run w mid course _ c.in_err-done.ensures.course in
     handed_on (λ r. OnErr r (IsUnstored w mid)) _ _ c.from_residual.ensures.1
@@ -141,9 +147,10 @@ returns-in-Err-store_topic_over-clause-unstored g c =
     let w = g.T.Turns.writer c.args.site.now in
     let mid = g.T.Turns.writer c.deliver_all.new.site in
     let new = g.T.Turns.writer c.store_topic_over.new.site in
-    let dest = c.args.dest.now in
-    let src = c.args.ask.now.src in
-    let batches = batches_of c.args.size (map (sent_item src) c.as_slice.result.now) in
+    let dest = c.args.delivery.now.dest.now in
+    let src = c.args.delivery.now.topic.collection.now in
+    let batches = batches_of c.args.delivery.now.batch_size
+    (map (sent_item src) c.as_slice.result.now) in
     let h = refused-reached mid new _ c.in-Err-store_topic_over.fault
     c.in-Err-store_topic_over.ensures.course in
     unstored-then w mid new (sends_course l dest src none_sunk batches) _

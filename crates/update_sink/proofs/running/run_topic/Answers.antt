@@ -1,8 +1,5 @@
 use Rattle.std.proofs.Common.{sym, subst}
 use Rattle.std.specs.Prelude.{IfOk, OnErr, Some}
-use Rattle.expr_types.specs.ExprTree.{expr_tree}
-use Rattle.expr_types.specs.declared.expr.Expr.{Expr}
-use Rattle.expr_check.specs.Views.{tree_of}
 use Rattle.exchange_rules.specs.Following.{Writer}
 use Rattle.exchange_rules.specs.Topics.{run_course}
 use Rattle.update_sink.specs.Promises.{HasDelivered, HasStood, IsKept, IsRunAlone, IsUnstored, stand_of}
@@ -16,69 +13,52 @@ pub returns-clause-course : goal.returns-clause-course
 returns-clause-course g c =
     let w = g.T.Turns.writer c.args.site.now in
     let l = g.T.Turns.layout c.args.site.now in
-    let s = sink_of (tree_of c.args.checked.now) in
-    let r = c.run_sink-result.result in
+    let s = sink_of c.args.delivery.now in
     subst (λ (x : Writer). IsRun w x (run_course l (asked_of s.topic (Some s.dest)) s.dest
-    (batches_over s) run_of) r) (sym c.leave.ensures.writer)
-    (subst (λ (e : Expr). IsRun w (g.T.Turns.writer c.run_sink-result.new.site)
-    (run_course l (asked_of (sink_of (expr_tree e)).topic (Some (sink_of (expr_tree e)).dest))
-    (sink_of (expr_tree e)).dest (batches_over (sink_of (expr_tree e))) run_of) r)
-    c.expr.ensures.value c.run_sink-result.ensures.course)
+    (batches_over s) run_of) c.run_delivery-result.result) (sym c.leave.ensures.writer)
+    c.run_delivery-result.ensures.course
 
 pub returns-clause-kept : goal.returns-clause-kept
 returns-clause-kept g c =
     let l = g.T.Turns.layout c.args.site.now in
-    let r = c.run_sink-result.result in
-    subst (λ (x : Writer). IfOk r (IsKept l x (sink_of (tree_of c.args.checked.now))))
-    (sym c.leave.ensures.writer)
-    (subst (λ (e : Expr). IfOk r (IsKept l (g.T.Turns.writer c.run_sink-result.new.site)
-    (sink_of (expr_tree e)))) c.expr.ensures.value c.run_sink-result.ensures.kept)
+    subst (λ (x : Writer). IfOk c.run_delivery-result.result
+    (IsKept l x (sink_of c.args.delivery.now))) (sym c.leave.ensures.writer)
+    c.run_delivery-result.ensures.kept
 
 pub returns-clause-unstored : goal.returns-clause-unstored
 returns-clause-unstored g c =
     let w = g.T.Turns.writer c.args.site.now in
-    subst (λ (x : Writer). OnErr c.run_sink-result.result (IsUnstored w x))
-    (sym c.leave.ensures.writer) c.run_sink-result.ensures.unstored
+    subst (λ (x : Writer). OnErr c.run_delivery-result.result (IsUnstored w x))
+    (sym c.leave.ensures.writer) c.run_delivery-result.ensures.unstored
 
 pub returns-clause-alone : goal.returns-clause-alone
 returns-clause-alone g c =
     let w = g.T.Turns.writer c.args.site.now in
-    let mid = g.T.Turns.writer c.run_sink-result.new.site in
+    let mid = g.T.Turns.writer c.run_delivery-result.new.site in
     let l = g.T.Turns.layout c.args.site.now in
-    let s = sink_of (tree_of c.args.checked.now) in
-    let r = c.run_sink-result.result in
-    let course = subst (λ (e : Expr). IsRun w mid (run_course l
-    (asked_of (sink_of (expr_tree e)).topic (Some (sink_of (expr_tree e)).dest))
-    (sink_of (expr_tree e)).dest (batches_over (sink_of (expr_tree e))) run_of) r)
-    c.expr.ensures.value c.run_sink-result.ensures.course in
+    let s = sink_of c.args.delivery.now in
     subst (λ (x : Writer). IsRunAlone (key_of s.topic) s.topic.collection w x)
     (sym c.leave.ensures.writer)
-    (run-alone w mid l (asked_of s.topic (Some s.dest)) s.dest (batches_over s) run_of r course)
+    (run-alone w mid l (asked_of s.topic (Some s.dest)) s.dest (batches_over s) run_of
+    c.run_delivery-result.result c.run_delivery-result.ensures.course)
 
 pub returns-clause-stood : goal.returns-clause-stood
 returns-clause-stood g c =
     let w = g.T.Turns.writer c.args.site.now in
-    let mid = g.T.Turns.writer c.run_sink-result.new.site in
+    let mid = g.T.Turns.writer c.run_delivery-result.new.site in
     let l = g.T.Turns.layout c.args.site.now in
-    let s = sink_of (tree_of c.args.checked.now) in
-    let r = c.run_sink-result.result in
-    let course = subst (λ (e : Expr). IsRun w mid (run_course l
-    (asked_of (sink_of (expr_tree e)).topic (Some (sink_of (expr_tree e)).dest))
-    (sink_of (expr_tree e)).dest (batches_over (sink_of (expr_tree e))) run_of) r)
-    c.expr.ensures.value c.run_sink-result.ensures.course in
+    let s = sink_of c.args.delivery.now in
+    let r = c.run_delivery-result.result in
     subst (λ (x : Writer). HasStood w x (stand_of r)) (sym c.leave.ensures.writer)
-    (run-stood w mid l (asked_of s.topic (Some s.dest)) s.dest (batches_over s) r course)
+    (run-stood w mid l (asked_of s.topic (Some s.dest)) s.dest (batches_over s) r
+    c.run_delivery-result.ensures.course)
 
 pub returns-clause-delivered : goal.returns-clause-delivered
 returns-clause-delivered g c =
     let w = g.T.Turns.writer c.args.site.now in
-    let mid = g.T.Turns.writer c.run_sink-result.new.site in
+    let mid = g.T.Turns.writer c.run_delivery-result.new.site in
     let l = g.T.Turns.layout c.args.site.now in
-    let s = sink_of (tree_of c.args.checked.now) in
-    let r = c.run_sink-result.result in
-    let course = subst (λ (e : Expr). IsRun w mid (run_course l
-    (asked_of (sink_of (expr_tree e)).topic (Some (sink_of (expr_tree e)).dest))
-    (sink_of (expr_tree e)).dest (batches_over (sink_of (expr_tree e))) run_of) r)
-    c.expr.ensures.value c.run_sink-result.ensures.course in
+    let s = sink_of c.args.delivery.now in
+    let r = c.run_delivery-result.result in
     subst (λ (x : Writer). IfOk r (HasDelivered w x s)) (sym c.leave.ensures.writer)
-    (if-delivered w mid l s r course)
+    (if-delivered w mid l s r c.run_delivery-result.ensures.course)

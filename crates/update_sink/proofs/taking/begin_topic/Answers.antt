@@ -1,4 +1,5 @@
 use Rattle.std.proofs.Common.{◌≡◌, length, sym, ap, ◌∙◌, subst}
+use Rattle.std.specs.Prelude.{option_map}
 use Rattle.query_syntax.specs.Meaning.{IsReadable}
 use Rattle.topic_book.specs.Fitness.{shards_of, IsOnCollections}
 use Rattle.topic_book.specs.declared.topic.Binding.{Binding}
@@ -8,7 +9,8 @@ use Rattle.exchange_rules.specs.Courses.{ends}
 use Rattle.exchange_rules.specs.Rows.{Layout}
 use Rattle.exchange_rules.specs.Topics.{begin_course, binding_for, init_course}
 use Rattle.stream_site.proofs.TestLemmas.{handed_on}
-use Rattle.update_sink.specs.Asks.{asked_by}
+use Rattle.expr_check.specs.Roots.{topic_parts}
+use Rattle.update_sink.specs.Topics.{asked_by}
 use Rattle.update_sink.proofs.QuietLemmas.{begin-bound, begin-uninit, begin-unstated, begin-wanting}
 use Rattle.update_sink.proofs.taking.begin_topic.Goals as goal
 
@@ -17,7 +19,8 @@ returns-in_err-state-clause-course g c =
     let w = g.T.Turns.writer c.args.site.now in
     let new = g.T.Turns.writer c.topic_state_over.new.site in
     let names = (g.T.Turns.layout c.args.site.now).names in
-    let t = asked_by c.args.ask.now in
+    let t = asked_by c.args.key.now (topic_parts c.args.topic.now)
+    (option_map (λ d. d.now) c.args.dest) in
     handed_on (Answered w new (begin_course names t)) _ _ c.from_residual.ensures.1
     (begin-unstated w w w new names t _ c.in_err-state.ensures.course)
 
@@ -27,7 +30,8 @@ returns-in_err-init-clause-course g c =
     let w = g.T.Turns.writer c.args.site.now in
     let w1 = g.T.Turns.writer c.topic_state_over.new.site in
     let new = g.T.Turns.writer c.init_of.new.site in
-    let t = asked_by c.args.ask.now in
+    let t = asked_by c.args.key.now (topic_parts c.args.topic.now)
+    (option_map (λ d. d.now) c.args.dest) in
     handed_on (Answered w new (begin_course l.names t)) _ _
     c.from_residual-in_err-init.ensures.1
     (begin-uninit w w1 new new l.names t c.in_ok-state.state c.in_ok-state.ensures.course
@@ -40,7 +44,8 @@ returns-in_err-binding-clause-course g c =
     let w = g.T.Turns.writer c.args.site.now in
     let w1 = g.T.Turns.writer c.topic_state_over.new.site in
     let w2 = g.T.Turns.writer c.init_of.new.site in
-    let t = asked_by c.args.ask.now in
+    let t = asked_by c.args.key.now (topic_parts c.args.topic.now)
+    (option_map (λ d. d.now) c.args.dest) in
     handed_on (Answered w w2 (begin_course l.names t)) _ _
     c.from_residual-in_err-binding.ensures.1
     (begin-wanting w w1 w2 w2 l.names t c.in_ok-state.state c.in_ok-state.ensures.course
@@ -52,8 +57,9 @@ returns-in_err-binding-clause-course g c =
 pub bind_topic_over-requires-clause-on : goal.bind_topic_over-requires-clause-on
 bind_topic_over-requires-clause-on g c =
     let same = c.in_ok-init.ensures.layout ∙ c.in_ok-state.ensures.layout in
-    let key = c.args.ask.now.key in
-    let t = asked_by c.args.ask.now in
+    let key = c.args.key.now in
+    let t = asked_by c.args.key.now (topic_parts c.args.topic.now)
+    (option_map (λ d. d.now) c.args.dest) in
     let counted : length c.in_ok-init.init
     ≡ shards_of (g.T.Turns.layout c.args.site.now).names t.src =
     c.in_ok-init.ensures.counted
@@ -80,7 +86,8 @@ returns-clause-course g c =
     let w1 = g.T.Turns.writer c.topic_state_over.new.site in
     let w2 = g.T.Turns.writer c.init_of.new.site in
     let new = g.T.Turns.writer c.bind_topic_over.new.site in
-    let t = asked_by c.args.ask.now in
+    let t = asked_by c.args.key.now (topic_parts c.args.topic.now)
+    (option_map (λ d. d.now) c.args.dest) in
     let same = c.in_ok-init.ensures.layout ∙ c.in_ok-state.ensures.layout in
     begin-bound w w1 w2 new l.names t c.in_ok-state.state c.in_ok-state.ensures.course
     c.in_ok-init.init
