@@ -35,6 +35,7 @@ use Rattle.root_runs.specs.Runs.{list_course, root_course}
 use Rattle.root_runs.proofs.RootLemmas.{roots_first}
 use Rattle.stream_handler.specs.Outcomes.{reply_of}
 use Rattle.stream_handler.specs.Refusals.{refusal}
+use Rattle.stream_handler.specs.Replies.{reply_text}
 use Rattle.stream_handler.specs.Requests.{RequestsLookFirst, acted_course, action_course, deed_course, handled, is_true, expression_course, outcome_of, plain_course, request_course, root_or_told, stream_course, update_course}
 use Rattle.stream_handler.specs.declared.exchange.Answered.{Answered}
 use Rattle.stream_handler.specs.declared.exchange.Exchange.{Exchange}
@@ -164,7 +165,7 @@ pub answered_of : (tells : ℕ → Type 0) {l m : Layout} {w u end new : Writer}
     {before after : BoardState} {r : Request} {a : Answered} (bytes : ByteList) (millis : ℕ)
     → u ≡ cleared w → m ≡ l → (t : IsTimed tells m u end before after r bytes millis)
     → new ≡ cleared end → a.exchange.marks ≡ end.marks → a.exchange.own ≡ end.own
-    → a.reply ≡ bytes → a.exchange.millis ≡ millis
+    → reply_text a.reply ≡ bytes → a.exchange.millis ≡ millis
     → IsAnswered tells l w new before after r a
 answered_of tells {l} {m} {w} {u} {end} {new} {before} {after} {r} {a} bytes millis fresh same t
     rest marks own reply time =

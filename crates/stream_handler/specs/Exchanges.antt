@@ -18,6 +18,7 @@ use Rattle.stream_handler.specs.Asks.{ask_of}
 use Rattle.stream_handler.specs.Boards.{BoardState, Says}
 use Rattle.stream_handler.specs.Outcomes.{reply_of}
 use Rattle.stream_handler.specs.Passing.{said}
+use Rattle.stream_handler.specs.Replies.{reply_text}
 use Rattle.stream_handler.specs.Requests.{request_course}
 use Rattle.stream_handler.specs.declared.exchange.Answered.{Answered}
 use Rattle.stream_handler.specs.declared.exchange.Exchange.{Exchange}
@@ -104,7 +105,7 @@ pub record IsAnswered (tells : ℕ → Type 0) (l : Layout) (old new : Writer)
   pub rest : new ≡ cleared end
   pub marks : a.exchange.marks ≡ end.marks
   pub own : a.exchange.own ≡ end.own
-  pub reply : a.reply ≡ reply_of request.closes a.exchange.millis outcome
+  pub reply : reply_text a.reply ≡ reply_of request.closes a.exchange.millis outcome
   pub lasted : Took tells now a.exchange.millis
   pub sound : IsSound tells now old.me end.seen (counts old.seen) (request_course l outcome request)
       a.exchange outcome (counts end.seen)

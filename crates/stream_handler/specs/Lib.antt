@@ -8,6 +8,7 @@ pub mod Requests
 pub mod Questions
 pub mod Choices
 pub mod Passing
+pub mod Replies
 pub mod Exchanges
 pub mod Sessions
 pub mod Waiting

@@ -45,8 +45,8 @@ fn keep(exchanges: &mut Vec<Exchange>, one: OneEnd) -> Option<End>
 
 // Serves the requests of a connection until it is over, or as many as it has at most.
 fn serve_all<T: Turns, D: Daemons, R: Threads + Sync, S: Source, K: Sink, C: Clock, G: Gate>(
-    alloc: Global,
     rt: &R,
+    alloc: Global,
     site: &mut T,
     board: &mut D,
     requests: &mut Requests,
@@ -70,7 +70,7 @@ fn serve_all<T: Turns, D: Daemons, R: Threads + Sync, S: Source, K: Sink, C: Clo
         if exchanges.reserve(1).is_err() {
             return (exchanges, End::OutOfMemory);
         }
-        let one = serve_one(alloc, rt, site, board, requests, source, sink, clock, gate);
+        let one = serve_one(rt, alloc, site, board, requests, source, sink, clock, gate);
         if let Some(end) = keep(&mut exchanges, one) {
             return (exchanges, end);
         }
@@ -88,8 +88,8 @@ pub fn serve_connection<
     C: Clock,
     G: Gate,
 >(
-    alloc: Global,
     rt: &R,
+    alloc: Global,
     site: &mut T,
     board: &mut D,
     source: &mut S,
@@ -110,8 +110,8 @@ pub fn serve_connection<
     let _ = take_record_over(site);
     let mut requests = Requests::begin(alloc);
     let (exchanges, end) = serve_all(
-        alloc,
         rt,
+        alloc,
         site,
         board,
         &mut requests,

@@ -2,6 +2,7 @@
 ghost use Rattle.std.specs.Prelude.{◌≡◌, IfOk, IfErr};
 ghost use Rattle.stream_handler.specs.Boards.{board_state};
 ghost use Rattle.stream_handler.specs.Exchanges.{IsAnswered, IsBroken, IsResponded};
+ghost use Rattle.stream_handler.specs.Replies.{reply_text};
 ghost use Rattle.root_runs.specs.Stays.{Stays};
 
 use crate::question::prepare;
@@ -29,18 +30,33 @@ pub struct Exchange {
 /// Exchanges, in their order.
 pub type Exchanges = Sequence<Exchange>;
 
+/// A response that is still to be written.
+#[derive(Drop)]
+pub struct Reply {
+    pub(crate) bytes: Bytes,
+}
+
+impl Reply {
+    /// Its bytes.
+    pub fn as_slice(&self) -> &[u8]
+        ensures { result.now ≡ reply_text self.now }
+    {
+        self.bytes.as_slice()
+    }
+}
+
 /// A response that is still to be written, and what its request did.
 #[derive(Drop)]
 pub struct Answered {
-    pub reply: Bytes,
+    pub reply: Reply,
     pub exchange: Exchange,
 }
 
 // Carries out a request, and gives the response to it and how many milliseconds that took. All
 // responses that there may be are made before the board is asked, at the time of the beginning.
 fn respond<T: Turns, D: Daemons, R: Threads + Sync, C: Clock, G: Gate>(
-    alloc: Global,
     rt: &R,
+    alloc: Global,
     site: &mut T,
     board: &mut D,
     request: &Request,
@@ -54,7 +70,7 @@ fn respond<T: Turns, D: Daemons, R: Threads + Sync, C: Clock, G: Gate>(
     ensures stays { Stays T.layout T.home T.free site.old site.new }
 {
     let now = clock.now_ms();
-    let question = request_question(alloc, rt, site, request, gate)?;
+    let question = request_question(rt, alloc, site, request, gate)?;
     let prepared = prepare(alloc, board, question)?;
     let millis = since(clock, now);
     let replies = prepared.replies(alloc, request.closes, millis)?;
@@ -67,8 +83,8 @@ fn respond<T: Turns, D: Daemons, R: Threads + Sync, C: Clock, G: Gate>(
 /// as it was. The clock is asked at the beginning, and the board is told that time; it is asked
 /// once more before the reply is made, which tells how long it took.
 pub fn answer<T: Turns, D: Daemons, R: Threads + Sync, C: Clock, G: Gate>(
-    alloc: Global,
     rt: &R,
+    alloc: Global,
     site: &mut T,
     board: &mut D,
     request: Request,
@@ -85,12 +101,15 @@ pub fn answer<T: Turns, D: Daemons, R: Threads + Sync, C: Clock, G: Gate>(
     ensures free { T.free site.new }
 {
     let _ = take_record_over(site);
-    let (reply, millis) = respond(alloc, rt, site, board, &request, clock, gate)?;
+    let (reply, millis) = respond(rt, alloc, site, board, &request, clock, gate)?;
     let record = take_record_over(site);
     let exchange = Exchange {
         marks: record.marks,
         own: record.own,
         millis,
     };
-    Ok(Answered { reply, exchange })
+    Ok(Answered {
+        reply: Reply { bytes: reply },
+        exchange,
+    })
 }

@@ -28,8 +28,8 @@ use tuple_values::Memory;
 
 // What an expression gives at the site that only reads.
 fn give<T: Turns, R: Threads + Sync, G: Gate>(
-    alloc: Global,
     rt: &R,
+    alloc: Global,
     site: &mut T,
     checked: &Checked,
     gate: &G,
@@ -39,7 +39,7 @@ fn give<T: Turns, R: Threads + Sync, G: Gate>(
         (plain_course (T.layout site.old) (Ok (tree_of checked.now))) result }
     ensures stays { Stays T.layout T.home T.free site.old site.new }
 {
-    let docs = run_plain(alloc, rt, site, checked, gate)?;
+    let docs = run_plain(rt, alloc, site, checked, gate)?;
     Ok(Outcome::ResultSet {
         docs,
         exception: None,
@@ -49,8 +49,8 @@ fn give<T: Turns, R: Threads + Sync, G: Gate>(
 /// What the bytes of an expression give at the site, which only reads, or the exception of their
 /// first fault.
 pub fn run_plain_expression<T: Turns, R: Threads + Sync, G: Gate>(
-    alloc: Global,
     rt: &R,
+    alloc: Global,
     site: &mut T,
     bytes: &[u8],
     gate: &G,
@@ -61,7 +61,7 @@ pub fn run_plain_expression<T: Turns, R: Threads + Sync, G: Gate>(
     ensures stays { Stays T.layout T.home T.free site.old site.new }
 {
     match read_checked(alloc, site.names(), bytes, Roots::Plain) {
-        Ok(checked) => give(alloc, rt, site, &checked, gate),
+        Ok(checked) => give(rt, alloc, site, &checked, gate),
         Err(TextFault::Told(text)) => Ok(Outcome::exception(alloc, text)),
         Err(TextFault::OutOfMemory) => Err(Memory::OutOfMemory),
     }
@@ -69,8 +69,8 @@ pub fn run_plain_expression<T: Turns, R: Threads + Sync, G: Gate>(
 
 // What an expression that isn't put on a board does at the site.
 fn carry_out<T: Turns, R: Threads + Sync, G: Gate>(
-    alloc: Global,
     rt: &R,
+    alloc: Global,
     site: &mut T,
     checked: &Checked,
     gate: &G,
@@ -79,7 +79,7 @@ fn carry_out<T: Turns, R: Threads + Sync, G: Gate>(
         (deed_course (T.layout site.old) (tree_of checked.now)) result }
     ensures stays { Stays T.layout T.home T.free site.old site.new }
 {
-    let done = run_deed(alloc, rt, site, checked, gate)?;
+    let done = run_deed(rt, alloc, site, checked, gate)?;
     Ok(Outcome::ResultSet {
         docs: done.docs,
         exception: done.exception,
@@ -88,8 +88,8 @@ fn carry_out<T: Turns, R: Threads + Sync, G: Gate>(
 
 // What an expression does at the site, and what it asks of the board.
 fn checked_question<T: Turns, R: Threads + Sync, G: Gate>(
-    alloc: Global,
     rt: &R,
+    alloc: Global,
     site: &mut T,
     checked: Checked,
     gate: &G,
@@ -105,7 +105,7 @@ fn checked_question<T: Turns, R: Threads + Sync, G: Gate>(
     match found {
         Some(daemon) => Ok(Question::Start { daemon, checked }),
         None => {
-            let outcome = carry_out(alloc, rt, site, &checked, gate)?;
+            let outcome = carry_out(rt, alloc, site, &checked, gate)?;
             Ok(Question::Nothing(outcome))
         }
     }
@@ -113,8 +113,8 @@ fn checked_question<T: Turns, R: Threads + Sync, G: Gate>(
 
 // The same of the bytes of an expression, or the exception of their first fault.
 fn expression_question<T: Turns, R: Threads + Sync, G: Gate>(
-    alloc: Global,
     rt: &R,
+    alloc: Global,
     site: &mut T,
     bytes: &[u8],
     gate: &G,
@@ -127,7 +127,7 @@ fn expression_question<T: Turns, R: Threads + Sync, G: Gate>(
     ensures stays { Stays T.layout T.home T.free site.old site.new }
 {
     match read_checked(alloc, site.names(), bytes, Roots::All) {
-        Ok(checked) => checked_question(alloc, rt, site, checked, gate),
+        Ok(checked) => checked_question(rt, alloc, site, checked, gate),
         Err(TextFault::Told(text)) => Ok(Question::Nothing(Outcome::exception(alloc, text))),
         Err(TextFault::OutOfMemory) => Err(Memory::OutOfMemory),
     }
@@ -137,8 +137,8 @@ fn expression_question<T: Turns, R: Threads + Sync, G: Gate>(
 /// is put on the board, where it runs from `now` on, in milliseconds. The board is asked last:
 /// where memory is wanting it is as it was.
 pub fn run_expression<T: Turns, D: Daemons, R: Threads + Sync, G: Gate>(
-    alloc: Global,
     rt: &R,
+    alloc: Global,
     site: &mut T,
     board: &mut D,
     bytes: &[u8],
@@ -154,14 +154,14 @@ pub fn run_expression<T: Turns, D: Daemons, R: Threads + Sync, G: Gate>(
         (board_state (D.shown board.new) (D.answers board.new)) result }
     ensures stays { Stays T.layout T.home T.free site.old site.new }
 {
-    let question = expression_question(alloc, rt, site, bytes, gate)?;
+    let question = expression_question(rt, alloc, site, bytes, gate)?;
     ask(alloc, board, question, now)
 }
 
 /// What the expression of a parameter does at the site, and what it asks of the board.
 pub(crate) fn stream_question<T: Turns, R: Threads + Sync, G: Gate>(
-    alloc: Global,
     rt: &R,
+    alloc: Global,
     site: &mut T,
     expr: Option<&str>,
     gate: &G,
@@ -173,7 +173,7 @@ pub(crate) fn stream_question<T: Turns, R: Threads + Sync, G: Gate>(
     ensures stays { Stays T.layout T.home T.free site.old site.new }
 {
     match expr {
-        Some(text) => expression_question(alloc, rt, site, text.as_bytes(), gate),
+        Some(text) => expression_question(rt, alloc, site, text.as_bytes(), gate),
         None => {
             let outcome = faulted(alloc, "MissingParam stream expr")?;
             Ok(Question::Nothing(outcome))

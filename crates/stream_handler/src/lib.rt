@@ -21,7 +21,7 @@ mod waiting;
 pub use action::Change;
 pub use connection::serve_connection;
 pub use ending::{End, OneEnd, SessionEnd};
-pub use exchange::{Answered, Exchange, Exchanges, answer};
+pub use exchange::{Answered, Exchange, Exchanges, Reply, answer};
 pub use expression::{run_expression, run_plain_expression};
 pub use laws::requests_look_first;
 pub use outcome::Outcome;

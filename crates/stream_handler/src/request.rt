@@ -38,8 +38,8 @@ fn is_true(value: Option<&str>) -> bool
 // What an action asks of the board, or where there is none an expression, which is carried out at
 // the site.
 fn acted_question<T: Turns, R: Threads + Sync, G: Gate>(
-    alloc: Global,
     rt: &R,
+    alloc: Global,
     site: &mut T,
     request: &Request,
     gate: &G,
@@ -53,7 +53,7 @@ fn acted_question<T: Turns, R: Threads + Sync, G: Gate>(
 {
     match request.param("action") {
         Some(action) => action_question(alloc, action, request.param("id")),
-        None => stream_question(alloc, rt, site, request.param("expr"), gate),
+        None => stream_question(rt, alloc, site, request.param("expr"), gate),
     }
 }
 
@@ -78,8 +78,8 @@ fn run_updated<T: Turns>(alloc: Global, site: &mut T, request: &Request) -> Resu
 
 // What a request does at a collection that is there, and what it asks of the board.
 fn handled_question<T: Turns, R: Threads + Sync, G: Gate>(
-    alloc: Global,
     rt: &R,
+    alloc: Global,
     site: &mut T,
     request: &Request,
     gate: &G,
@@ -92,7 +92,7 @@ fn handled_question<T: Turns, R: Threads + Sync, G: Gate>(
     ensures stays { Stays T.layout T.home T.free site.old site.new }
 {
     match request.handler {
-        Handler::Stream => acted_question(alloc, rt, site, request, gate),
+        Handler::Stream => acted_question(rt, alloc, site, request, gate),
         Handler::Update => {
             let outcome = run_updated(alloc, site, request)?;
             Ok(Question::Nothing(outcome))
@@ -110,8 +110,8 @@ fn unknown(alloc: Global) -> Result<Outcome, Memory>
 
 /// What a request does at the site, and what it asks of the board then.
 pub(crate) fn request_question<T: Turns, R: Threads + Sync, G: Gate>(
-    alloc: Global,
     rt: &R,
+    alloc: Global,
     site: &mut T,
     request: &Request,
     gate: &G,
@@ -125,7 +125,7 @@ pub(crate) fn request_question<T: Turns, R: Threads + Sync, G: Gate>(
         let outcome = unknown(alloc)?;
         return Ok(Question::Nothing(outcome));
     }
-    handled_question(alloc, rt, site, request, gate)
+    handled_question(rt, alloc, site, request, gate)
 }
 
 /// What a request does at the site or asks of the board, and is answered (Solr Reference Guide,
@@ -133,8 +133,8 @@ pub(crate) fn request_question<T: Turns, R: Threads + Sync, G: Gate>(
 /// texts of refusals own). The board is asked last, at the time `now`, in milliseconds: where
 /// memory is wanting it is as it was.
 pub fn run_request<T: Turns, D: Daemons, R: Threads + Sync, G: Gate>(
-    alloc: Global,
     rt: &R,
+    alloc: Global,
     site: &mut T,
     board: &mut D,
     request: &Request,
@@ -148,6 +148,6 @@ pub fn run_request<T: Turns, D: Daemons, R: Threads + Sync, G: Gate>(
         (board_state (D.shown board.new) (D.answers board.new)) result }
     ensures stays { Stays T.layout T.home T.free site.old site.new }
 {
-    let question = request_question(alloc, rt, site, request, gate)?;
+    let question = request_question(rt, alloc, site, request, gate)?;
     ask(alloc, board, question, now)
 }

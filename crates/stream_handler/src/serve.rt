@@ -18,8 +18,8 @@ use stream_site::Turns;
 
 // Carries out a request and writes its reply.
 fn reply_to<T: Turns, D: Daemons, R: Threads + Sync, K: Sink, C: Clock, G: Gate>(
-    alloc: Global,
     rt: &R,
+    alloc: Global,
     site: &mut T,
     board: &mut D,
     request: Request,
@@ -37,7 +37,7 @@ fn reply_to<T: Turns, D: Daemons, R: Threads + Sync, K: Sink, C: Clock, G: Gate>
     ensures free { T.free site.new }
 {
     let closes = request.closes;
-    let Ok(answered) = answer(alloc, rt, site, board, request, clock, gate) else {
+    let Ok(answered) = answer(rt, alloc, site, board, request, clock, gate) else {
         return OneEnd::Over {
             end: End::OutOfMemory,
             unfinished: None,
@@ -57,8 +57,8 @@ fn reply_to<T: Turns, D: Daemons, R: Threads + Sync, K: Sink, C: Clock, G: Gate>
 /// Serves the next request of a connection. The site's record begins anew. What is held of the
 /// stream and what is taken from the source is read as one.
 pub fn serve_one<T: Turns, D: Daemons, R: Threads + Sync, S: Source, K: Sink, C: Clock, G: Gate>(
-    alloc: Global,
     rt: &R,
+    alloc: Global,
     site: &mut T,
     board: &mut D,
     requests: &mut Requests,
@@ -78,7 +78,7 @@ pub fn serve_one<T: Turns, D: Daemons, R: Threads + Sync, S: Source, K: Sink, C:
 {
     let _ = take_record_over(site);
     match next_request(alloc, site.names(), requests, source, sink) {
-        Ok(request) => reply_to(alloc, rt, site, board, request, sink, clock, gate),
+        Ok(request) => reply_to(rt, alloc, site, board, request, sink, clock, gate),
         Err(end) => OneEnd::Over {
             end,
             unfinished: None,
