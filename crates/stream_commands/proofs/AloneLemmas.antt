@@ -1,21 +1,22 @@
 -- What an expression's course answers alone, where no cell has an entry.
-use Rattle.std.proofs.Common.{◌≡◌, ℕ, zero, suc, ◌+◌, List, [], ◌∷◌, ◌++◌, get_or, map, refl, sym, ap, ◌∙◌, subst, append_assoc}
-use Rattle.std.specs.Prelude.{None, Result, Ok, Err, replicate}
+use Rattle.std.proofs.Common.{◌≡◌, ℕ, zero, suc, ◌+◌, List, [], ◌∷◌, ◌++◌, get_or, refl, sym, ap, ◌∙◌, subst, append_assoc}
+use Rattle.std.specs.Prelude.{None, Result, Ok, Err, IfOk, replicate}
 use Rattle.std.proofs.lemmas.List.{append-nil}
 use Rattle.tuple_values.specs.Document.{ByteList, Doc}
+use Rattle.tuple_values.specs.declared.memory.Memory.{Memory}
 use Rattle.tuple_values.specs.declared.names.NameShards.{NameShards}
-use Rattle.shard_versions.specs.Histories.{History}
 use Rattle.shard_versions.specs.declared.cut.CutPart.{CutPart}
 use Rattle.topic_book.specs.Cells.{cells_in, cell_of}
 use Rattle.topic_book.specs.Fitness.{shards_of}
-use Rattle.exchange_rules.specs.Cells.{Log, log_of, history_in}
+use Rattle.exchange_rules.specs.Calls.{Carried}
+use Rattle.exchange_rules.specs.Cells.{Log, history_in}
 use Rattle.exchange_rules.specs.Courses.{Course, ends, looks, makes, and_then, appended, run_alone}
-use Rattle.exchange_rules.specs.Following.{Answers, counts}
+use Rattle.exchange_rules.specs.Following.{Answers, Writer, counts}
 use Rattle.exchange_rules.specs.Own.{IsAlone}
 use Rattle.exchange_rules.specs.Rows.{Layout, part_of, cut_shards, cut_course}
 use Rattle.exchange_rules.proofs.AloneLemmas.{answers_alone}
 use Rattle.expr_types.specs.ExprTree.{ExprTree}
-use Rattle.stream_site.specs.Plains.{Plain, empty_site, layout_of, writer_of}
+use Rattle.running_site.specs.Passes.{new_writer}
 use Rattle.expr_check.specs.Walk.{collections_of}
 use Rattle.expr_check.specs.declared.roots.Roots.TheVariants.{Plain as Reads}
 use Rattle.expr_text.specs.Reading.{expression_of}
@@ -30,10 +31,9 @@ use Rattle.stream_commands.specs.Replies.{empty_parts, empty_cut, evaluated, mea
 abbrev pub AreEmpty : List Log → Type 0
 AreEmpty logs = (cell : ℕ) → get_or logs cell [] ≡ []
 
--- the logs of so many new shards and of the book have none
-pub new_logs : (n : ℕ) → AreEmpty (map log_of (replicate n (let h : History = [] in h)) ++ [] ∷ [])
-new_logs zero zero = refl
-new_logs zero (suc cell) = refl
+-- so many new logs have none
+new_logs : (n : ℕ) → AreEmpty (replicate n (let log : Log = [] in log))
+new_logs zero cell = refl
 new_logs (suc n) zero = refl
 new_logs (suc n) (suc cell) = new_logs n cell
 
@@ -96,24 +96,49 @@ expression_alone me logs empty l (Ok e) =
     (list_alone me logs empty l e))
 
 -- over collections that are empty it is what the bytes mean
-pub alone_outcome-is : (names : List NameShards) (bytes : ByteList)
+alone_outcome-is : (names : List NameShards) (bytes : ByteList)
     → alone_outcome names bytes ≡ outcome_of (meaning names bytes)
 alone_outcome-is names bytes =
-    expression_alone 1 (logs_at_start names) (new_logs (cells_in names)) (layout names)
+    expression_alone 1 (logs_at_start names) (new_logs (cells_in names + 1)) (layout names)
     (expression_of Reads names bytes)
 
 -- what was answered at a new site without another writer
-pub answered_alone : (old new : Plain) (names : List NameShards) (bytes : ByteList) (o : Outcome)
-    → old ≡ empty_site names 268435456
-    → ((had : List ℕ) → IsAlone 1 had (writer_of new).seen)
-    → Answers (writer_of old) (writer_of new)
-    (plain_course (layout_of old) (expression_of Reads (layout_of old).names bytes)) o
+answered_alone : (names : List NameShards) (bytes : ByteList) (o : Outcome) (old new : Writer)
+    (l : Layout) → old ≡ new_writer names 1 → l ≡ layout names
+    → ((had : List ℕ) → IsAlone 1 had new.seen)
+    → Answers old new (plain_course l (expression_of Reads l.names bytes)) o
     → o ≡ alone_outcome names bytes
-answered_alone old new names bytes o is alone a =
-    let course = plain_course (layout_of old) (expression_of Reads (layout_of old).names bytes) in
-    let e =
-    answers_alone (writer_of old) (writer_of new) course o (alone (counts (writer_of old).seen))
-    a in
-    subst (λ (p : Plain). o ≡ (run_alone 1 (writer_of p).seen
-    (plain_course (layout_of p) (expression_of Reads (layout_of p).names bytes))).1) is
-    (sym (ap (λ (r : List Log × Outcome). r.1) e))
+answered_alone names bytes o old new l is at alone a =
+    let start = new_writer names 1 in
+    let here = subst
+    (λ (k : Layout). Answers start new (plain_course k (expression_of Reads k.names bytes)) o) at
+    (subst (λ (w : Writer). Answers w new (plain_course l (expression_of Reads l.names bytes)) o) is
+    a) in
+    let e = answers_alone start new (plain_course (layout names) (expression_of Reads names bytes)) o
+    (alone (counts start.seen)) here in
+    sym (ap (λ (r : List Log × Outcome). r.1) e)
+
+module _ (names : List NameShards) (bytes : ByteList) (r : Result Outcome Memory) (old new : Writer)
+    (l : Layout) (is : old ≡ new_writer names 1) (at : l ≡ layout names)
+    (alone : (had : List ℕ) → IsAlone 1 had new.seen)
+    (c : Carried old new (plain_course l (expression_of Reads l.names bytes)) r) where
+  -- the same where memory may be wanting
+  pub carried_alone : IfOk r (λ o. o ≡ alone_outcome names bytes)
+  carried_alone = by_answer r c
+    where
+      by_answer : (r : Result Outcome Memory)
+          → Carried old new (plain_course l (expression_of Reads l.names bytes)) r
+          → IfOk r (λ o. o ≡ alone_outcome names bytes)
+      by_answer (Ok o) a = answered_alone names bytes o old new l is at alone a
+      by_answer (Err e) b = tt
+
+  -- and it is what the bytes mean
+  pub carried_meant : IfOk r (λ o. o ≡ outcome_of (meaning names bytes))
+  carried_meant = by_answer r c
+    where
+      by_answer : (r : Result Outcome Memory)
+          → Carried old new (plain_course l (expression_of Reads l.names bytes)) r
+          → IfOk r (λ o. o ≡ outcome_of (meaning names bytes))
+      by_answer (Ok o) a =
+          answered_alone names bytes o old new l is at alone a ∙ alone_outcome-is names bytes
+      by_answer (Err e) b = tt

@@ -14,6 +14,7 @@ use Rattle.exchange_rules.specs.Rows.{Layout}
 use Rattle.exchange_rules.proofs.AloneLemmas.{shown_old}
 use Rattle.exchange_rules.proofs.GrowthLemmas.{grows_join, grows_same}
 use Rattle.site_laws.specs.SiteCells.{IsLawful}
+use Rattle.site_laws.proofs.KeepLemmas.{nothing-lawful}
 use Rattle.form_request.specs.Readers.{HeldReads}
 use Rattle.form_request.specs.Readings.{Reads, nothing}
 use Rattle.form_request.specs.Streams.{Held, begun, fed, fed_by}
@@ -22,8 +23,7 @@ use Rattle.form_request.specs.declared.plan.Stage.TheVariants as stage
 use Rattle.form_request.specs.declared.reading.After.{After}
 use Rattle.form_request.specs.declared.reading.After.TheVariants.{Refusal, Rest}
 use Rattle.form_request.specs.declared.reading.Message.{Message}
-use Rattle.stream_site.specs.Plains.{Plain, empty_site, layout_of, writer_of}
-use Rattle.stream_site.proofs.PlainLawLemmas.{new_lawful}
+use Rattle.running_site.specs.Passes.{new_writer}
 use Rattle.daemon_board.specs.Boards.{Told, empty_board}
 use Rattle.daemon_board.specs.Tickets.{tickets_of}
 use Rattle.stream_handler.specs.Exchanges.{Answer, BoardsAlong, messages_of, replies_of, reply_to}
@@ -298,7 +298,7 @@ module _ (names : List NameShards) (all : List ℕ) (reads : ℕ) (written : Opt
   began = wire begun (Some all) reads written writes (state_of empty_board)
 
   abbrev pub starter : Writer
-  starter = writer_of (empty_site names 268435456)
+  starter = new_writer names 1
 
   -- what is to be shown of a script with this end
   abbrev pub Wrote : End → Type 0
@@ -339,7 +339,7 @@ module _ (names : List NameShards) (all : List ℕ) (reads : ℕ) (written : Opt
         subst (λ logs. IsLawful names
         (after_messages (layout names) logs no_tickets (take upto (messages_of answers))).0) same
         (rounds_lawful (layout names) v.seen alone starter w empty_board b answers refl grown.grown
-        p.rounds (subst (IsLawful names) (sym same) (new_lawful names)) upto)
+        p.rounds (subst (IsLawful names) (sym same) (nothing-lawful names)) upto)
 
     -- it held before each of them
     before_here : AreLawfulBefore names (messages_of answers)
@@ -493,23 +493,22 @@ module _ (names : List NameShards) (all : List ℕ) (reads : ℕ) (written : Opt
       stops_write s.mid s.turned s.board after s.answers s.served s.told e s.stops
 
 -- what was served at a new site, with a new board, without another writer
-pub script_writes : (names : List NameShards) (p q : Plain) (board after : Told) (held : Held)
-    (left : Option (List ℕ)) (reads : ℕ) (written : Option (List ℕ)) (writes : ℕ) (new : Wire)
-    (e : End) → p ≡ empty_site names 268435456 → board ≡ empty_board → held ≡ begun
-    → ((had : List ℕ) → IsAlone 1 had (writer_of q).seen)
-    → HasServed (layout_of p) (wire held left reads written writes (state_of board)) new
-    (writer_of p) (writer_of q) board after e
+pub script_writes : (names : List NameShards) (l : Layout) (w v : Writer) (board after : Told)
+    (held : Held) (left : Option (List ℕ)) (reads : ℕ) (written : Option (List ℕ)) (writes : ℕ)
+    (new : Wire) (e : End) → l ≡ layout names → w ≡ new_writer names 1 → board ≡ empty_board
+    → held ≡ begun → ((had : List ℕ) → IsAlone 1 had v.seen)
+    → HasServed l (wire held left reads written writes (state_of board)) new w v board after e
     → Writes (ending_of e) (Some (Script names)) left new.left written new.written
-script_writes names p q board after held None reads written writes new e is empty start alone s = tt
-script_writes names p q board after held (Some all) reads written writes new e is empty start alone s =
-    let at : Held → Told → Wire = λ h c. wire h (Some all) reads written writes (state_of c) in
-    let start_of = writer_of (empty_site names 268435456) in
+script_writes names l w v board after held None reads written writes new e at is empty start alone s = tt
+script_writes names l w v board after held (Some all) reads written writes new e at is empty start alone s =
+    let wire_at : Held → Told → Wire = λ h c. wire h (Some all) reads written writes (state_of c) in
+    let first = new_writer names 1 in
+    let here = subst (λ k. HasServed k (wire_at held board) new w v board after e) at s in
     let there = subst
-    (λ p. HasServed (layout_of p) (at held board) new (writer_of p) (writer_of q) board after e) is s
-    in
-    session_writes names all reads written writes new (writer_of q) alone after e
-    (subst (λ c. HasServed (layout names) (at begun c) new start_of (writer_of q) c after e) empty
-    (subst (λ h. HasServed (layout names) (at h board) new start_of (writer_of q) board after e)
+    (λ u. HasServed (layout names) (wire_at held board) new u v board after e) is here in
+    session_writes names all reads written writes new v alone after e
+    (subst (λ c. HasServed (layout names) (wire_at begun c) new first v c after e) empty
+    (subst (λ h. HasServed (layout names) (wire_at h board) new first v board after e)
     start there))
 
 -- how a script ends

@@ -1,15 +1,15 @@
 -- What the bytes of an expression mean over collections that are empty, and their reply (own).
-use Rattle.std.specs.Prelude.{ℕ, zero, suc, ◌+◌, List, [], ◌∷◌, ◌++◌, Some, None, Result, Ok, Err}
+use Rattle.std.specs.Prelude.{ℕ, zero, suc, ◌+◌, List, [], ◌∷◌, ◌++◌, Some, None, Result, Ok, Err, replicate}
 use Rattle.tuple_values.specs.Document.{ByteList, Doc}
 use Rattle.tuple_values.specs.declared.names.NameShards.{NameShards}
 use Rattle.shard_versions.specs.declared.cut.CutPart.{CutPart}
+use Rattle.topic_book.specs.Cells.{cells_in}
 use Rattle.topic_book.specs.Fitness.{shards_of}
 use Rattle.exchange_rules.specs.Cells.{Log}
 use Rattle.exchange_rules.specs.Courses.{run_alone}
 use Rattle.exchange_rules.specs.Rows.{Layout, part_of}
 use Rattle.expr_types.specs.ExprTree.{ExprTree}
 use Rattle.json_text.specs.Replies.{body}
-use Rattle.stream_site.specs.Plains.{empty_site, layout_of, writer_of}
 use Rattle.expr_check.specs.Walk.{collections_of}
 use Rattle.expr_check.specs.declared.roots.Roots.TheVariants.{Plain}
 use Rattle.expr_text.specs.Reading.{expression_of}
@@ -61,11 +61,11 @@ shard_limit = 268435456
 
 -- the collections, with this limit on each shard
 abbrev pub layout : List NameShards → Layout
-layout names = layout_of (empty_site names shard_limit)
+layout names = record { names = names; limit = shard_limit }
 
--- what the writer of a new site has seen: an empty log for each cell
+-- the logs of a new site, where no cell has an entry
 abbrev pub logs_at_start : List NameShards → List Log
-logs_at_start names = (writer_of (empty_site names shard_limit)).seen
+logs_at_start names = replicate (cells_in names + 1) []
 
 -- what the expression is answered where its course runs alone, over those logs
 abbrev pub alone_outcome : List NameShards → ByteList → Outcome

@@ -8,10 +8,12 @@ ghost use Rattle.stream_commands.specs.Replies.{alone_outcome, meaning, outcome_
 use crate::ending::Ending;
 use crate::input::{ReadFault, read_input};
 use io_edge::{Gate, Put, Sink, Source};
+use running_site::SiteOf;
 use std::alloc::Global;
+use std::sync::Wait;
 use std::thread::Threads;
 use stream_handler::{Outcome, run_plain_expression};
-use stream_site::PlainSite;
+use stream_site::Turns;
 use tuple_values::{Memory, Names};
 
 /// The greatest number of bytes that the entries of a shard may count.
@@ -31,10 +33,10 @@ fn ending_of(outcome: &Outcome) -> Ending
 }
 
 // What the bytes of an expression give over these collections, which are made empty. It is what the
-// expression's course answers alone, and what the bytes mean.
-fn evaluate<R: Threads + Sync, G: Gate>(
-    alloc: Global,
+// expression's course answers alone, since no other pass is at the site, and what the bytes mean.
+fn evaluate<R: Threads + Wait + Sync, G: Gate>(
     rt: &R,
+    alloc: Global,
     names: Names,
     bytes: &[u8],
     gate: &G,
@@ -42,18 +44,18 @@ fn evaluate<R: Threads + Sync, G: Gate>(
     ensures alone { IfOk result (λ outcome. outcome ≡ alone_outcome names bytes.now) }
     ensures meant { IfOk result (λ outcome. outcome ≡ outcome_of (meaning names bytes.now)) }
 {
-    let mut site = PlainSite::start(alloc, names, SHARD_LIMIT)?;
-    let outcome = run_plain_expression(alloc, rt, &mut site, bytes, gate)?;
-
-    // Its contract says that the site had no other writer.
-    let _ = site.names();
-    Ok(outcome)
+    let (site, mut pass) = SiteOf::start_alone(alloc, names, SHARD_LIMIT)?;
+    let mut visit = site.visit(rt, &mut pass);
+    let outcome = run_plain_expression(rt, alloc, &mut visit, bytes, gate);
+    visit.watch();
+    visit.end(&mut pass);
+    outcome
 }
 
 /// Answers the expression that input holds, over these collections.
-pub fn eval<R: Threads + Sync, I: Source, O: Sink, G: Gate>(
-    alloc: Global,
+pub fn eval<R: Threads + Wait + Sync, I: Source, O: Sink, G: Gate>(
     rt: &R,
+    alloc: Global,
     names: Names,
     input: &mut I,
     output: &mut O,
@@ -74,7 +76,7 @@ pub fn eval<R: Threads + Sync, I: Source, O: Sink, G: Gate>(
         Err(ReadFault::Failed) => return Ending::InputFailed,
         Err(ReadFault::OutOfMemory) => return Ending::OutOfMemory,
     };
-    let Ok(outcome) = evaluate(alloc, rt, names, &bytes, gate) else {
+    let Ok(outcome) = evaluate(rt, alloc, names, &bytes, gate) else {
         return Ending::OutOfMemory;
     };
     let ending = ending_of(&outcome);

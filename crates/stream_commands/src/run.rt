@@ -11,12 +11,13 @@ use crate::script::script;
 use command_words::{Command, WordsFault, read_command};
 use io_edge::{Gate, Sink, Source};
 use std::alloc::Global;
+use std::sync::Wait;
 use std::thread::Threads;
 use tuple_values::Words;
 
-fn run<R: Threads + Sync, I: Source, O: Sink, G: Gate>(
-    alloc: Global,
+fn run<R: Threads + Wait + Sync, I: Source, O: Sink, G: Gate>(
     rt: &R,
+    alloc: Global,
     words: &Words,
     input: &mut I,
     output: &mut O,
@@ -33,8 +34,8 @@ fn run<R: Threads + Sync, I: Source, O: Sink, G: Gate>(
     }) }
 {
     match read_command(alloc, words) {
-        Ok(Command::Eval { names }) => eval(alloc, rt, names, input, output, gate),
-        Ok(Command::Script { names }) => script(alloc, rt, names, input, output, gate),
+        Ok(Command::Eval { names }) => eval(rt, alloc, names, input, output, gate),
+        Ok(Command::Script { names }) => script(rt, alloc, names, input, output, gate),
         Err(WordsFault::Refused) => Ending::WordsRefused,
         Err(WordsFault::OutOfMemory) => Ending::OutOfMemory,
     }
@@ -42,7 +43,7 @@ fn run<R: Threads + Sync, I: Source, O: Sink, G: Gate>(
 
 /// Runs the command that the words after the program's name give, and answers the status of the
 /// process. What is said below of output holds where the input tells its bytes.
-pub fn run_words<R: Threads + Sync, I: Source, O: Sink, E: Sink, G: Gate>(
+pub fn run_words<R: Threads + Wait + Sync, I: Source, O: Sink, E: Sink, G: Gate>(
     rt: &R,
     alloc: Global,
     words: &Words,
@@ -93,7 +94,7 @@ pub fn run_words<R: Threads + Sync, I: Source, O: Sink, E: Sink, G: Gate>(
         (λ ending. Writes ending (command_of words.now) (I.left input.old) (I.left input.new)
         (O.written output.old) (O.written output.new)) }
 {
-    let ending = run(alloc, rt, words, input, output, gate);
+    let ending = run(rt, alloc, words, input, output, gate);
     ending.say(errors);
     ending.status()
 }

@@ -5,7 +5,6 @@ ghost use Rattle.daemon_board.specs.Rising.{IsKept};
 ghost use Rattle.daemon_board.specs.Tickets.{tickets_of};
 ghost use Rattle.site_laws.specs.SiteCells.{IsLawful};
 ghost use Rattle.stream_handler.specs.Sessions.{wire};
-ghost use Rattle.stream_site.specs.Plains.{layout_of, writer_of};
 ghost use Rattle.stream_commands.specs.Endings.{HasRisen, IsEndingOf, Writes};
 ghost use Rattle.stream_commands.specs.Serving.{HasRound, HasRun, HasServed, ending_of, state_of};
 
@@ -15,11 +14,13 @@ use daemon_board::Board;
 use daemon_steps::run_daemons;
 use form_request::Requests;
 use io_edge::{Gate, Sink, Source};
+use running_site::SiteOf;
 use server_edge::NoClock;
 use std::alloc::Global;
+use std::sync::Wait;
 use std::thread::Threads;
 use stream_handler::{End, OneEnd, serve_one};
-use stream_site::PlainSite;
+use stream_site::Turns;
 use tuple_values::Names;
 
 // How the run ends where the serving of its input ended so.
@@ -37,25 +38,26 @@ fn ending_of(end: End) -> Ending
 }
 
 // Runs every running daemon once. The serving goes on as it would have, unless memory was wanting.
-fn run_board<R: Threads + Sync, G: Gate>(
-    alloc: Global,
+// No other writer is there, so the law holds of all that was seen.
+fn run_board<T: Turns, R: Threads + Sync, G: Gate>(
     rt: &R,
-    site: &mut PlainSite,
+    alloc: Global,
+    site: &mut T,
     board: &mut Board,
     gate: &G,
     next: Option<End>,
 ) -> Option<End>
-    requires { IsKept board.old.shown }
-    ensures ran { HasRun (layout_of site.old) (writer_of site.old) (writer_of site.new)
+    requires lone { T.lone (T.home site.old) }
+    requires kept { IsKept board.old.shown }
+    ensures ran { HasRun (T.layout site.old) (T.writer site.old) (T.writer site.new)
         (tickets_of board.old.shown) (tickets_of board.new.shown) next result }
     ensures kept { IsKept board.new.shown }
-    ensures lawful { IsLawful (layout_of site.new).names (writer_of site.new).seen }
-    ensures layout { layout_of site.new ≡ layout_of site.old }
+    ensures lawful { IsLawful (T.layout site.new).names (T.writer site.new).seen }
+    ensures layout { T.layout site.new ≡ T.layout site.old }
+    ensures home { T.home site.new ≡ T.home site.old }
 {
-    let ran = run_daemons(alloc, rt, site, board, gate);
-
-    // Its contract says that the law holds of the histories.
-    let _ = site.names();
+    let ran = run_daemons(rt, alloc, site, board, gate);
+    site.watch();
     match ran {
         Ok(()) => next,
         Err(_) => Some(End::OutOfMemory),
@@ -63,56 +65,60 @@ fn run_board<R: Threads + Sync, G: Gate>(
 }
 
 // Serves one message, and then runs the daemons. Answers how the serving ends, unless it goes on.
-fn serve_round<R: Threads + Sync, I: Source, O: Sink, G: Gate>(
-    alloc: Global,
+fn serve_round<T: Turns, R: Threads + Sync, I: Source, O: Sink, G: Gate>(
     rt: &R,
-    site: &mut PlainSite,
+    alloc: Global,
+    site: &mut T,
     board: &mut Board,
     requests: &mut Requests,
     input: &mut I,
     output: &mut O,
     gate: &G,
 ) -> Option<End>
-    requires { IsKept board.old.shown }
-    ensures round { HasRound (layout_of site.old)
+    requires lone { T.lone (T.home site.old) }
+    requires kept { IsKept board.old.shown }
+    ensures round { HasRound (T.layout site.old)
         (wire requests.old (I.left input.old) (I.faults input.old) (O.written output.old)
         (O.faults output.old) (state_of board.old))
         (wire requests.new (I.left input.new) (I.faults input.new) (O.written output.new)
-        (O.faults output.new) (state_of board.new)) (writer_of site.old) (writer_of site.new)
+        (O.faults output.new) (state_of board.new)) (T.writer site.old) (T.writer site.new)
         board.old board.new result }
     ensures kept { result ≡ None → IsKept board.new.shown }
-    ensures layout { layout_of site.new ≡ layout_of site.old }
+    ensures layout { T.layout site.new ≡ T.layout site.old }
+    ensures home { T.home site.new ≡ T.home site.old }
 {
     match serve_one(
-        alloc, rt, site, board, requests, input, output, &NoClock, gate,
+        rt, alloc, site, board, requests, input, output, &NoClock, gate,
     ) {
-        OneEnd::Served(_) => run_board(alloc, rt, site, board, gate, None),
-        OneEnd::Last(_) => run_board(alloc, rt, site, board, gate, Some(End::Closed)),
+        OneEnd::Served(_) => run_board(rt, alloc, site, board, gate, None),
+        OneEnd::Last(_) => run_board(rt, alloc, site, board, gate, Some(End::Closed)),
         OneEnd::Over { end, .. } => Some(end),
     }
 }
 
 // Serves the messages of input until it is over.
-fn serve<R: Threads + Sync, I: Source, O: Sink, G: Gate>(
-    alloc: Global,
+fn serve<T: Turns, R: Threads + Sync, I: Source, O: Sink, G: Gate>(
     rt: &R,
-    site: &mut PlainSite,
+    alloc: Global,
+    site: &mut T,
     board: &mut Board,
     requests: &mut Requests,
     input: &mut I,
     output: &mut O,
     gate: &G,
 ) -> End
-    requires { IsKept board.old.shown }
-    ensures { HasServed (layout_of site.old)
+    requires lone { T.lone (T.home site.old) }
+    requires kept { IsKept board.old.shown }
+    ensures served { HasServed (T.layout site.old)
         (wire requests.old (I.left input.old) (I.faults input.old) (O.written output.old)
         (O.faults output.old) (state_of board.old))
         (wire requests.new (I.left input.new) (I.faults input.new) (O.written output.new)
-        (O.faults output.new) (state_of board.new)) (writer_of site.old) (writer_of site.new)
+        (O.faults output.new) (state_of board.new)) (T.writer site.old) (T.writer site.new)
         board.old board.new result }
+    ensures home { T.home site.new ≡ T.home site.old }
 {
     for _ in 0..u64::MAX {
-        match serve_round(alloc, rt, site, board, requests, input, output, gate) {
+        match serve_round(rt, alloc, site, board, requests, input, output, gate) {
             Some(end) => return end,
             None => {}
         }
@@ -122,9 +128,9 @@ fn serve<R: Threads + Sync, I: Source, O: Sink, G: Gate>(
 
 /// Carries out the requests that input holds, over these collections, and writes their replies.
 /// After each whole request every running daemon runs once.
-pub fn script<R: Threads + Sync, I: Source, O: Sink, G: Gate>(
-    alloc: Global,
+pub fn script<R: Threads + Wait + Sync, I: Source, O: Sink, G: Gate>(
     rt: &R,
+    alloc: Global,
     names: Names,
     input: &mut I,
     output: &mut O,
@@ -140,23 +146,24 @@ pub fn script<R: Threads + Sync, I: Source, O: Sink, G: Gate>(
       output_new = O.faults output.new;
     }) }
 {
-    let Ok(mut site) = PlainSite::start(alloc, names, SHARD_LIMIT) else {
+    let Ok((site, mut pass)) = SiteOf::start_alone(alloc, names, SHARD_LIMIT) else {
         return Ending::OutOfMemory;
     };
     let mut board = Board::empty(alloc);
     let mut requests = Requests::begin(alloc);
+    let mut visit = site.visit(rt, &mut pass);
     let end = serve(
-        alloc,
         rt,
-        &mut site,
+        alloc,
+        &mut visit,
         &mut board,
         &mut requests,
         input,
         output,
         gate,
     );
-
-    // Its contract says that the site had no other writer.
-    let _ = site.names();
+    visit.watch();
+    visit.leave();
+    visit.end(&mut pass);
     ending_of(end)
 }
