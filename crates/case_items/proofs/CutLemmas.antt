@@ -1,5 +1,5 @@
 -- What a cut of one collection shows, by the course that was followed.
-use Rattle.std.proofs.Common.{◌≡◌, ℕ, zero, suc, ◌+◌, ◌<◌, ◌≤◌, List, [], ◌∷◌, ◌++◌, get_or, take, drop, sym, ap, ◌∙◌, subst, arith, Result, Ok}
+use Rattle.std.proofs.Common.{◌≡◌, ℕ, zero, suc, ◌+◌, ◌<◌, ◌≤◌, List, [], ◌∷◌, ◌++◌, get_or, take, drop, sym, ap, ◌∙◌, subst, arith, Ok}
 use Rattle.std.proofs.lemmas.List.{take-append-drop}
 use Rattle.tuple_values.specs.Document.{ByteList}
 use Rattle.tuple_values.specs.declared.names.NameShards.{NameShards}
@@ -11,7 +11,7 @@ use Rattle.topic_book.specs.Fitness.{shards_of}
 use Rattle.exchange_rules.specs.Accesses.{Access, a_look, a_step, at_mark, had_after}
 use Rattle.exchange_rules.specs.Calls.{Completed}
 use Rattle.exchange_rules.specs.Cells.{Log, history_in}
-use Rattle.exchange_rules.specs.Courses.{Course, ends, looks, and_then}
+use Rattle.exchange_rules.specs.Courses.{ends, looks, and_then}
 use Rattle.exchange_rules.specs.Following.{Follows, Writer, counts}
 use Rattle.exchange_rules.specs.Rows.{cut_course, cut_shards, part_of, shown_of}
 use Rattle.exchange_rules.proofs.CellLemmas.{cell_of-within}

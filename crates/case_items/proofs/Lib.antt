@@ -1,5 +1,5 @@
-pub mod CellLemmas
 pub mod CutLemmas
 pub mod FieldLemmas
 pub mod ItemLemmas
 pub mod PartLemmas
+pub mod StoreLemmas

@@ -1,42 +1,19 @@
 // One action, carried out at a site.
-ghost use Rattle.std.specs.Prelude.{◌≤◌};
+ghost use Rattle.std.specs.Prelude.{◌<◌, Decides, IfOk, IsTrue};
+ghost use Rattle.query_syntax.specs.Meaning.{IsReadable};
+ghost use Rattle.topic_book.specs.Fitness.{shards_of, IsOnCollections};
+ghost use Rattle.running_site.specs.Sites.{IsPassAt};
 
+use crate::fixture::Fixture;
+use crate::keeping::{items_of, may_store, take_kept};
+use crate::opening::{DESTINATION, SOURCE, begin};
 use crate::texts::{numbers_text, record_text, sent_text};
-use case_items::current_items;
+use once_core::{is_on_collections, is_readable};
 use std::alloc::Global;
-use stream_site::{PlainSite, SiteFault, are_storable_writes, may_store_nowhere};
+use std::sync::Wait;
+use stream_site::{SiteFault, are_storable_writes, shards_of};
 use topic_book::{Binding, TopicKey};
-use tuple_values::{
-    Bytes, FieldList, Memory, NameShards, Names, Text, Tuple, Value, Versions, Write, Writes,
-};
-
-/// The collection that is written to, from which deliveries come.
-const SOURCE: &str = "c";
-
-/// The collection to which they go.
-const DESTINATION: &str = "d";
-
-/// A site of the two collections with two shards each, whose counted bytes are at most the limit.
-pub fn begin(alloc: Global, limit: u64) -> Result<PlainSite, Memory>
-    requires { limit ≤ 268435456 }
-{
-    PlainSite::start(alloc, collections(alloc)?, limit)
-}
-
-// The two collections.
-fn collections(alloc: Global) -> Result<Names, Memory> {
-    let mut names = Names::new(alloc);
-    push_collection(alloc, &mut names, SOURCE)?;
-    push_collection(alloc, &mut names, DESTINATION)?;
-    Ok(names)
-}
-
-fn push_collection(alloc: Global, names: &mut Names, name: &str) -> Result<(), Memory> {
-    names.push(NameShards {
-        name: Text::of(alloc, name)?,
-        shards: 2,
-    })
-}
+use tuple_values::{FieldList, Memory, Text, Tuple, Value, Versions, Write, Writes};
 
 fn not_allowed(alloc: Global) -> Result<Text, Memory> {
     Text::of(alloc, "not allowed")
@@ -122,30 +99,50 @@ fn dels(alloc: Global, ids: &str) -> Result<Writes, Memory> {
     Ok(writes)
 }
 
+// Whether there is a collection of this name with a shard.
+fn knows(fixture: &Fixture, collection: &Text) -> bool
+    ensures { Decides result (0 < shards_of fixture.now.site.names collection.now) }
+{
+    shards_of(fixture.site.names(), collection.as_str()) > 0
+}
+
 // An update of the source with a commit.
-fn write_to(
+fn write_to<R: Wait>(
+    rt: &R,
     alloc: Global,
-    site: &mut PlainSite,
+    fixture: &mut Fixture,
     source: &Text,
     writes: Writes,
-) -> Result<Text, Memory> {
-    if !site.knows(source) || !are_storable_writes(&writes) {
+) -> Result<Text, Memory>
+    requires { IsPassAt fixture.old.site fixture.old.pass }
+    ensures { IsPassAt fixture.new.site fixture.new.pass }
+{
+    if !knows(fixture, source) || !are_storable_writes(&writes) {
         return not_allowed(alloc);
     }
-    match site.index(alloc, source, writes, true) {
+    match fixture
+        .site
+        .index(rt, alloc, &mut fixture.pass, source, writes, true)
+    {
         Ok(count) => Ok(Text::from_string(format!(in alloc; "indexed {count}")?)),
         Err(fault) => refusal(alloc, &fault),
     }
 }
 
-fn update(alloc: Global, site: &mut PlainSite, ids: &str) -> Result<Text, Memory> {
+fn update<R: Wait>(rt: &R, alloc: Global, fixture: &mut Fixture, ids: &str) -> Result<Text, Memory>
+    requires { IsPassAt fixture.old.site fixture.old.pass }
+    ensures { IsPassAt fixture.new.site fixture.new.pass }
+{
     let source = Text::of(alloc, SOURCE)?;
-    write_to(alloc, site, &source, puts(alloc, ids)?)
+    write_to(rt, alloc, fixture, &source, puts(alloc, ids)?)
 }
 
-fn delete(alloc: Global, site: &mut PlainSite, ids: &str) -> Result<Text, Memory> {
+fn delete<R: Wait>(rt: &R, alloc: Global, fixture: &mut Fixture, ids: &str) -> Result<Text, Memory>
+    requires { IsPassAt fixture.old.site fixture.old.pass }
+    ensures { IsPassAt fixture.new.site fixture.new.pass }
+{
     let source = Text::of(alloc, SOURCE)?;
-    write_to(alloc, site, &source, dels(alloc, ids)?)
+    write_to(rt, alloc, fixture, &source, dels(alloc, ids)?)
 }
 
 fn key_of(alloc: Global, id: &str) -> Result<TopicKey, Memory> {
@@ -188,37 +185,68 @@ fn binding_of(alloc: Global, dest: &str, query: &str) -> Result<Binding, Memory>
     })
 }
 
-// Binds the topic, where that may be asked.
-fn bind_topic(
+// Whether the topic may be bound so: it is on known collections, and its query can be read.
+fn may_bind(
     alloc: Global,
-    site: &mut PlainSite,
+    fixture: &Fixture,
     key: &TopicKey,
-    binding: Binding,
-) -> Result<Option<Result<Versions, SiteFault>>, Memory> {
-    if !site.may_bind(alloc, key, &binding)? {
-        return Ok(None);
+    binding: &Binding,
+) -> Result<bool, Memory>
+    ensures { IfOk result (λ may. IsTrue may
+        → IsOnCollections fixture.now.site.names key.now binding.now × IsReadable binding.now.q) }
+{
+    if !is_on_collections(fixture.site.names().as_slice(), key, binding) {
+        return Ok(false);
     }
-    Ok(Some(site.bind_topic(alloc, key, binding)))
+    is_readable(alloc, &binding.q)
 }
 
-fn bind_to(
+// Binds the topic, where that may be asked.
+fn bind_topic<R: Wait>(
+    rt: &R,
     alloc: Global,
-    site: &mut PlainSite,
+    fixture: &mut Fixture,
     key: &TopicKey,
     binding: Binding,
-) -> Result<Text, Memory> {
-    match bind_topic(alloc, site, key, binding)? {
+) -> Result<Option<Result<Versions, SiteFault>>, Memory>
+    requires { IsPassAt fixture.old.site fixture.old.pass }
+    ensures { IsPassAt fixture.new.site fixture.new.pass }
+{
+    if !may_bind(alloc, fixture, key, &binding)? {
+        return Ok(None);
+    }
+    Ok(Some(
+        fixture
+            .site
+            .bind_topic(rt, alloc, &mut fixture.pass, key, binding),
+    ))
+}
+
+fn bind_to<R: Wait>(
+    rt: &R,
+    alloc: Global,
+    fixture: &mut Fixture,
+    key: &TopicKey,
+    binding: Binding,
+) -> Result<Text, Memory>
+    requires { IsPassAt fixture.old.site fixture.old.pass }
+    ensures { IsPassAt fixture.new.site fixture.new.pass }
+{
+    match bind_topic(rt, alloc, fixture, key, binding)? {
         Some(Ok(upto)) => numbers_text(alloc, &upto),
         Some(Err(fault)) => refusal(alloc, &fault),
         None => not_allowed(alloc),
     }
 }
 
-fn bind(alloc: Global, site: &mut PlainSite, rest: &str) -> Result<Text, Memory> {
+fn bind<R: Wait>(rt: &R, alloc: Global, fixture: &mut Fixture, rest: &str) -> Result<Text, Memory>
+    requires { IsPassAt fixture.old.site fixture.old.pass }
+    ensures { IsPassAt fixture.new.site fixture.new.pass }
+{
     let (topic, rest) = rest.split_once(' ').unwrap_or((rest, ""));
     let (dest, query) = rest.split_once(' ').unwrap_or((rest, ""));
     let key = key_of(alloc, topic)?;
-    bind_to(alloc, site, &key, binding_of(alloc, dest, query)?)
+    bind_to(rt, alloc, fixture, &key, binding_of(alloc, dest, query)?)
 }
 
 // How many topics were bound, and what the next is answered.
@@ -229,13 +257,17 @@ fn filled(alloc: Global, count: u64, fault: &SiteFault) -> Result<Text, Memory> 
 }
 
 // Binds the topic behind so many others: none where it is bound, else the answer.
-fn fill_behind(
+fn fill_behind<R: Wait>(
+    rt: &R,
     alloc: Global,
-    site: &mut PlainSite,
+    fixture: &mut Fixture,
     key: &TopicKey,
     count: u64,
-) -> Result<Option<Text>, Memory> {
-    match bind_topic(alloc, site, key, binding_of(alloc, "-", "*:*")?)? {
+) -> Result<Option<Text>, Memory>
+    requires { IsPassAt fixture.old.site fixture.old.pass }
+    ensures { IsPassAt fixture.new.site fixture.new.pass }
+{
+    match bind_topic(rt, alloc, fixture, key, binding_of(alloc, "-", "*:*")?)? {
         Some(Ok(_)) => Ok(None),
         Some(Err(fault)) => Ok(Some(filled(alloc, count, &fault)?)),
         None => Ok(Some(not_allowed(alloc)?)),
@@ -248,81 +280,115 @@ fn filling_key(alloc: Global, count: u64) -> Result<TopicKey, Memory> {
 }
 
 // Binds topics of other names until one isn't bound: how many were, and what the next is answered.
-fn fill(alloc: Global, site: &mut PlainSite) -> Result<Text, Memory> {
+fn fill<R: Wait>(rt: &R, alloc: Global, fixture: &mut Fixture) -> Result<Text, Memory>
+    requires { IsPassAt fixture.old.site fixture.old.pass }
+    ensures { IsPassAt fixture.new.site fixture.new.pass }
+{
     for count in 0..10_000 {
         let key = filling_key(alloc, count)?;
-        if let Some(answer) = fill_behind(alloc, site, &key, count)? {
+        if let Some(answer) = fill_behind(rt, alloc, fixture, &key, count)? {
             return Ok(answer);
         }
     }
     Text::of(alloc, "none refused")
 }
 
-fn state(alloc: Global, site: &mut PlainSite, topic: &str) -> Result<Text, Memory> {
+fn state<R: Wait>(rt: &R, alloc: Global, fixture: &mut Fixture, topic: &str) -> Result<Text, Memory>
+    requires { IsPassAt fixture.old.site fixture.old.pass }
+    ensures { IsPassAt fixture.new.site fixture.new.pass }
+{
     let key = key_of(alloc, topic)?;
-    match site.topic_state(alloc, &key) {
+    match fixture.site.topic_state(rt, alloc, &mut fixture.pass, &key) {
         Ok(Some(upto)) => numbers_text(alloc, &upto),
         Ok(None) => Text::of(alloc, "unbound"),
         Err(fault) => refusal(alloc, &fault),
     }
 }
 
-fn store(alloc: Global, site: &mut PlainSite, rest: &str) -> Result<Text, Memory> {
+fn store<R: Wait>(rt: &R, alloc: Global, fixture: &mut Fixture, rest: &str) -> Result<Text, Memory>
+    requires { IsPassAt fixture.old.site fixture.old.pass }
+    ensures { IsPassAt fixture.new.site fixture.new.pass }
+{
     let (topic, rest) = rest.split_once(' ').unwrap_or((rest, ""));
     let key = key_of(alloc, topic)?;
-    store_to(alloc, site, &key, numbers(alloc, rest)?)
+    store_to(rt, alloc, fixture, &key, numbers(alloc, rest)?)
 }
 
-fn store_to(
+fn store_to<R: Wait>(
+    rt: &R,
     alloc: Global,
-    site: &mut PlainSite,
+    fixture: &mut Fixture,
     key: &TopicKey,
     upto: Versions,
-) -> Result<Text, Memory> {
-    if !may_store_nowhere(alloc, site, key, &upto)? {
+) -> Result<Text, Memory>
+    requires { IsPassAt fixture.old.site fixture.old.pass }
+    ensures { IsPassAt fixture.new.site fixture.new.pass }
+{
+    if !may_store(rt, alloc, fixture, key, &upto)? {
         return not_allowed(alloc);
     }
-    match site.store_topic(alloc, key, upto) {
+    match fixture
+        .site
+        .store_topic(rt, alloc, &mut fixture.pass, key, upto)
+    {
         Ok(()) => Text::of(alloc, "done"),
         Err(fault) => refusal(alloc, &fault),
     }
 }
 
 // Delivers current documents of the source: those of these ids, or all where there is no id.
-fn send_to(
+fn send_to<R: Wait>(
+    rt: &R,
     alloc: Global,
-    site: &mut PlainSite,
+    fixture: &mut Fixture,
     dest: &Text,
     src: &Text,
     ids: &FieldList,
-) -> Result<Text, Memory> {
-    if !site.knows(dest) || src.as_str() == dest.as_str() {
+) -> Result<Text, Memory>
+    requires { IsPassAt fixture.old.site fixture.old.pass }
+    ensures { IsPassAt fixture.new.site fixture.new.pass }
+{
+    if !knows(fixture, dest) || !knows(fixture, src) || src.as_str() == dest.as_str() {
         return not_allowed(alloc);
     }
-    let batch = current_items(alloc, site, src, ids)?;
-    match site.send(alloc, dest, src, batch) {
+    let Some(batch) = items_of(rt, alloc, fixture, src, ids)? else {
+        return not_allowed(alloc);
+    };
+    match fixture
+        .site
+        .send(rt, alloc, &mut fixture.pass, dest, src, batch)
+    {
         Ok(sent) => sent_text(alloc, sent),
         Err(fault) => refusal(alloc, &fault),
     }
 }
 
-fn send(alloc: Global, site: &mut PlainSite, rest: &str) -> Result<Text, Memory> {
+fn send<R: Wait>(rt: &R, alloc: Global, fixture: &mut Fixture, rest: &str) -> Result<Text, Memory>
+    requires { IsPassAt fixture.old.site fixture.old.pass }
+    ensures { IsPassAt fixture.new.site fixture.new.pass }
+{
     let ids = words(alloc, rest)?;
     let src = Text::of(alloc, SOURCE)?;
     let dest = Text::of(alloc, DESTINATION)?;
-    send_to(alloc, site, &dest, &src, &ids)
+    send_to(rt, alloc, fixture, &dest, &src, &ids)
 }
 
-fn record(alloc: Global, site: &mut PlainSite) -> Result<Text, Memory> {
-    let record = site.take_record();
+fn record(alloc: Global, fixture: &mut Fixture) -> Result<Text, Memory>
+    requires { IsPassAt fixture.old.site fixture.old.pass }
+    ensures { IsPassAt fixture.new.site fixture.new.pass }
+{
+    let record = take_kept(alloc, fixture)?;
     record_text(alloc, &record)
 }
 
 // The site begins anew with this limit.
-fn limit(alloc: Global, site: &mut PlainSite, rest: &str) -> Result<Text, Memory> {
+fn limit(alloc: Global, fixture: &mut Fixture, rest: &str) -> Result<Text, Memory>
+    requires { IsPassAt fixture.old.site fixture.old.pass }
+    ensures { IsPassAt fixture.new.site fixture.new.pass }
+{
     match rest.parse::<u64>() {
         Ok(limit) if limit <= 268_435_456 => {
-            *site = begin(alloc, limit)?;
+            *fixture = begin(alloc, limit)?;
             Text::of(alloc, "begun")
         }
         _ => not_allowed(alloc),
@@ -330,18 +396,26 @@ fn limit(alloc: Global, site: &mut PlainSite, rest: &str) -> Result<Text, Memory
 }
 
 /// The answer to one action, which is a word and what it is asked of.
-pub fn answer(alloc: Global, site: &mut PlainSite, case: &str) -> Result<Text, Memory> {
+pub fn answer<R: Wait>(
+    rt: &R,
+    alloc: Global,
+    fixture: &mut Fixture,
+    case: &str,
+) -> Result<Text, Memory>
+    requires { IsPassAt fixture.old.site fixture.old.pass }
+    ensures { IsPassAt fixture.new.site fixture.new.pass }
+{
     let (action, rest) = case.split_once(' ').unwrap_or((case, ""));
     match action {
-        "update" => update(alloc, site, rest),
-        "delete" => delete(alloc, site, rest),
-        "bind" => bind(alloc, site, rest),
-        "state" => state(alloc, site, rest),
-        "store" => store(alloc, site, rest),
-        "send" => send(alloc, site, rest),
-        "record" => record(alloc, site),
-        "fill" => fill(alloc, site),
-        "limit" => limit(alloc, site, rest),
+        "update" => update(rt, alloc, fixture, rest),
+        "delete" => delete(rt, alloc, fixture, rest),
+        "bind" => bind(rt, alloc, fixture, rest),
+        "state" => state(rt, alloc, fixture, rest),
+        "store" => store(rt, alloc, fixture, rest),
+        "send" => send(rt, alloc, fixture, rest),
+        "record" => record(alloc, fixture),
+        "fill" => fill(rt, alloc, fixture),
+        "limit" => limit(alloc, fixture, rest),
         _ => Text::of(alloc, "no such action"),
     }
 }

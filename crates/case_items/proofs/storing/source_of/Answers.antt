@@ -1,0 +1,25 @@
+use Rattle.std.proofs.Common.{◌<◌, ◌^◌, sym, ap, subst, ◌∙◌}
+use Rattle.std.specs.Prelude.{IfOk, IfSome}
+use Rattle.topic_book.specs.Cells.{cells_in}
+use Rattle.exchange_rules.specs.Bindings.{book_cell, book_seen}
+use Rattle.exchange_rules.specs.Rows.{Layout}
+use Rattle.case_items.specs.Stores.{IsBoundNowhere}
+use Rattle.case_items.proofs.storing.source_of.Goals as goal
+
+pub book_cell-book-requires : goal.book_cell-book-requires
+book_cell-book-requires g c =
+    subst (λ n. cells_in n < 2 ^ 32) (sym c.names.ensures.names) c.names.ensures.few
+
+pub source_seen-requires : goal.source_seen-requires
+source_seen-requires g c =
+    subst (g.T.Turns.holds c.look.new.self)
+    (c.book_cell-book.ensures
+    ∙ (ap book_cell c.names.ensures.names
+    ∙ ap (λ (x : Layout). book_cell x.names) (sym c.in_ok-look.ensures.layout)))
+    c.in_ok-look.ensures.holds
+
+pub returns-clause-bound : goal.returns-clause-bound
+returns-clause-bound g c =
+    subst (λ (x : Layout). IfOk c.source_seen.result (λ source. IfSome source (λ src.
+    IsBoundNowhere c.args.key.now src (book_seen x (g.T.Turns.writer c.look.new.self)))))
+    c.in_ok-look.ensures.layout c.source_seen.ensures
