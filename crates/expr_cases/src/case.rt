@@ -1,4 +1,5 @@
-// One case, carried out at a site with a board of daemons.
+// One case, carried out by a writer of a site with a board of daemons.
+ghost use Rattle.std.specs.Prelude.{◌≡◌};
 ghost use Rattle.daemon_board.specs.Rising.{IsKept};
 
 use crate::requests::{action_of, update_of};
@@ -11,7 +12,7 @@ use server_edge::{Clock, NoClock};
 use std::alloc::Global;
 use std::thread::Threads;
 use stream_handler::{Outcome, run_expression, run_plain_expression, run_request};
-use stream_site::PlainSite;
+use stream_site::Turns;
 use tuple_values::{Bytes, Memory, Text, Tuple, Tuples};
 
 fn push_tuple(alloc: Global, out: &mut Bytes, tuple: &Tuple) -> Result<(), Memory> {
@@ -56,33 +57,35 @@ fn line_of(alloc: Global, outcome: &Outcome) -> Result<Bytes, Memory> {
 }
 
 // What a request is answered.
-fn run<R: Threads + Sync>(
-    alloc: Global,
+fn run<T: Turns, R: Threads + Sync>(
     rt: &R,
-    site: &mut PlainSite,
+    alloc: Global,
+    site: &mut T,
     board: &mut Board,
     request: &Request,
 ) -> Result<Outcome, Memory>
     requires { IsKept board.old.shown }
-    ensures { IsKept board.new.shown }
+    ensures kept { IsKept board.new.shown }
+    ensures home { T.home site.new ≡ T.home site.old }
 {
-    run_request(alloc, rt, site, board, request, NoClock.now_ms(), &NoGate)
+    run_request(rt, alloc, site, board, request, NoClock.now_ms(), &NoGate)
 }
 
 // What an expression is answered.
-fn run_text<R: Threads + Sync>(
-    alloc: Global,
+fn run_text<T: Turns, R: Threads + Sync>(
     rt: &R,
-    site: &mut PlainSite,
+    alloc: Global,
+    site: &mut T,
     board: &mut Board,
     text: &str,
 ) -> Result<Outcome, Memory>
     requires { IsKept board.old.shown }
-    ensures { IsKept board.new.shown }
+    ensures kept { IsKept board.new.shown }
+    ensures home { T.home site.new ≡ T.home site.old }
 {
     run_expression(
-        alloc,
         rt,
+        alloc,
         site,
         board,
         text.as_bytes(),
@@ -92,74 +95,78 @@ fn run_text<R: Threads + Sync>(
 }
 
 // What the update of these words is answered.
-fn run_update<R: Threads + Sync>(
-    alloc: Global,
+fn run_update<T: Turns, R: Threads + Sync>(
     rt: &R,
-    site: &mut PlainSite,
+    alloc: Global,
+    site: &mut T,
     board: &mut Board,
     commit: &str,
     words: &str,
 ) -> Result<Outcome, Memory>
     requires { IsKept board.old.shown }
-    ensures { IsKept board.new.shown }
+    ensures kept { IsKept board.new.shown }
+    ensures home { T.home site.new ≡ T.home site.old }
 {
     let request = update_of(alloc, commit, words)?;
-    run(alloc, rt, site, board, &request)
+    run(rt, alloc, site, board, &request)
 }
 
 // What the action of these words is answered.
-fn run_action<R: Threads + Sync>(
-    alloc: Global,
+fn run_action<T: Turns, R: Threads + Sync>(
     rt: &R,
-    site: &mut PlainSite,
+    alloc: Global,
+    site: &mut T,
     board: &mut Board,
     words: &str,
 ) -> Result<Outcome, Memory>
     requires { IsKept board.old.shown }
-    ensures { IsKept board.new.shown }
+    ensures kept { IsKept board.new.shown }
+    ensures home { T.home site.new ≡ T.home site.old }
 {
     let request = action_of(alloc, site.names(), words)?;
-    run(alloc, rt, site, board, &request)
+    run(rt, alloc, site, board, &request)
 }
 
 // What a case is answered.
-fn outcome_of<R: Threads + Sync>(
-    alloc: Global,
+fn outcome_of<T: Turns, R: Threads + Sync>(
     rt: &R,
-    site: &mut PlainSite,
+    alloc: Global,
+    site: &mut T,
     board: &mut Board,
     case: &str,
 ) -> Result<Outcome, Memory>
     requires { IsKept board.old.shown }
-    ensures { IsKept board.new.shown }
+    ensures kept { IsKept board.new.shown }
+    ensures home { T.home site.new ≡ T.home site.old }
 {
     if let Some(words) = case.strip_prefix("update ") {
-        return run_update(alloc, rt, site, board, "true", words);
+        return run_update(rt, alloc, site, board, "true", words);
     }
     if let Some(words) = case.strip_prefix("pending ") {
-        return run_update(alloc, rt, site, board, "false", words);
+        return run_update(rt, alloc, site, board, "false", words);
     }
     if let Some(words) = case.strip_prefix("action ") {
-        return run_action(alloc, rt, site, board, words);
+        return run_action(rt, alloc, site, board, words);
     }
     match case.strip_prefix("eval ") {
-        Some(text) => run_plain_expression(alloc, rt, site, text.as_bytes(), &NoGate),
-        None => run_text(alloc, rt, site, board, case),
+        Some(text) => run_plain_expression(rt, alloc, site, text.as_bytes(), &NoGate),
+        None => run_text(rt, alloc, site, board, case),
     }
 }
 
 // What a case is answered, in one line.
-fn told<R: Threads + Sync>(
-    alloc: Global,
+fn told<T: Turns, R: Threads + Sync>(
     rt: &R,
-    site: &mut PlainSite,
+    alloc: Global,
+    site: &mut T,
     board: &mut Board,
     case: &str,
 ) -> Result<Bytes, Memory>
     requires { IsKept board.old.shown }
-    ensures { IsKept board.new.shown }
+    ensures kept { IsKept board.new.shown }
+    ensures home { T.home site.new ≡ T.home site.old }
 {
-    let outcome = outcome_of(alloc, rt, site, board, case)?;
+    let outcome = outcome_of(rt, alloc, site, board, case)?;
     line_of(alloc, &outcome)
 }
 
@@ -167,17 +174,18 @@ fn told<R: Threads + Sync>(
 /// one without; `action NAME` and `action NAME ID` are actions on daemons; `eval` and an expression
 /// only reads, and each other line is an expression. Tuples are written with a blank between them, and
 /// the text of a fault behind them. Every running daemon runs once behind each case.
-pub fn answer<R: Threads + Sync>(
-    alloc: Global,
+pub fn answer<T: Turns, R: Threads + Sync>(
     rt: &R,
-    site: &mut PlainSite,
+    alloc: Global,
+    site: &mut T,
     board: &mut Board,
     case: &str,
 ) -> Result<Bytes, Memory>
     requires { IsKept board.old.shown }
-    ensures { IsKept board.new.shown }
+    ensures kept { IsKept board.new.shown }
+    ensures home { T.home site.new ≡ T.home site.old }
 {
-    let line = told(alloc, rt, site, board, case)?;
-    run_daemons(alloc, rt, site, board, &NoGate)?;
+    let line = told(rt, alloc, site, board, case)?;
+    run_daemons(rt, alloc, site, board, &NoGate)?;
     Ok(line)
 }

@@ -1,8 +1,9 @@
-// Sites of cases.
-ghost use Rattle.std.specs.Prelude.{◌≤◌};
+// Sites of cases, each of one pass.
+ghost use Rattle.std.specs.Prelude.{◌≤◌, IfOk};
+ghost use Rattle.running_site.specs.Sites.{IsPassAt};
 
+use running_site::{Pass, Site, SiteOf};
 use std::alloc::Global;
-use stream_site::PlainSite;
 use tuple_values::{Memory, NameShards, Names, Text};
 
 /// The greatest limit of a shard.
@@ -35,16 +36,19 @@ fn names_of(alloc: Global, words: &str) -> Result<Names, Memory> {
     Ok(names)
 }
 
-/// A new site with these collections, whose shards have this limit.
-pub fn start(alloc: Global, limit: u64, words: &str) -> Result<PlainSite, Memory>
+/// A new site with these collections, whose shards have this limit, and its one pass.
+pub fn start(alloc: Global, limit: u64, words: &str) -> Result<(Site, Pass), Memory>
     requires { limit ≤ 268435456 }
+    ensures { IfOk result (λ made. IsPassAt made.0 made.1) }
 {
     let names = names_of(alloc, words)?;
-    PlainSite::start(alloc, names, limit)
+    SiteOf::start_alone(alloc, names, limit)
 }
 
 /// The same, where the limit stands first.
-pub fn named(alloc: Global, words: &str) -> Result<PlainSite, Memory> {
+pub fn named(alloc: Global, words: &str) -> Result<(Site, Pass), Memory>
+    ensures { IfOk result (λ made. IsPassAt made.0 made.1) }
+{
     let (limit, words) = words.split_once(' ').unwrap_or((words, ""));
     start(alloc, number(limit).min(MOST), words)
 }

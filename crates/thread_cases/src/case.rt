@@ -4,8 +4,8 @@ ghost use Rattle.running_site.specs.Passes.{numbers_to};
 ghost use Rattle.site_threads.specs.Workers.{number_in, IsWorkerAt};
 
 use crate::agreeing::all_agree;
+use crate::alone::index_alone;
 use crate::documents::{BATCH, collections};
-use crate::plain::index_plain;
 use crate::showing::{counts, show};
 use crate::workers::serve_all;
 use running_site::{Histories, Record, Site};
@@ -135,9 +135,9 @@ fn overtake<R: Threads + Wait + Sync>(rt: &R, alloc: Global) -> Result<String, M
     Ok(text)
 }
 
-// The batches at a site of one writer.
-fn plain(alloc: Global, shards: u16, batches: u64) -> Result<String, Memory> {
-    match index_plain(alloc, shards, batches)? {
+// The batches at a site of one pass.
+fn alone<R: Wait>(rt: &R, alloc: Global, shards: u16, batches: u64) -> Result<String, Memory> {
+    match index_alone(rt, alloc, shards, batches)? {
         Some(count) => Ok(format!(in alloc; "{count}")?),
         None => Ok(String::from_str(alloc, "refused")?),
     }
@@ -169,7 +169,7 @@ pub fn answer<R: Threads + Wait + Sync>(
         Some("deliver") => deliver(rt, alloc, few(first), second),
         Some("index") => share(rt, alloc, collections(alloc, 1, few(second))?, first, third),
         Some("apart") => share(rt, alloc, collections(alloc, first, 1)?, first, second),
-        Some("plain") => plain(alloc, few(first), second),
+        Some("plain") => alone(rt, alloc, few(first), second),
         _ => Ok(String::from_str(alloc, "no such action")?),
     }
 }

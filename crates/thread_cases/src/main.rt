@@ -3,12 +3,12 @@
 #![tactic(auto)]
 
 mod agreeing;
+mod alone;
 mod baton;
 mod case;
 mod documents;
 mod indexing;
 mod overtaking;
-mod plain;
 mod showing;
 mod workers;
 

@@ -1,7 +1,7 @@
 use Rattle.std.proofs.Common.{refl, ◌∙◌}
 use Rattle.running_site.specs.Passes.{writer_of}
 use Rattle.running_site.specs.Sites.{layout_at}
-use Rattle.site_threads.specs.Work.{HasWorked, IsUpdateOf}
+use Rattle.site_threads.specs.Work.{IsUpdateOf}
 use Rattle.site_threads.proofs.WorkLemmas.{work-join, work-none}
 use Rattle.thread_cases.specs.Serving.{name_of}
 use Rattle.thread_cases.proofs.WorkLemmas.{updates-of}
