@@ -1,21 +1,8 @@
--- Passes that the tests take out of a list.
-use Rattle.std.proofs.Common.{ℕ, zero, suc, ◌≡◌, List, [], ◌∷◌, ◌++◌, get_or, length, map, sym, ap, ◌∙◌, subst, arith, length-append}
+-- One pass as a list of passes.
+use Rattle.std.proofs.Common.{ℕ, zero, suc, ◌≡◌, List, [], ◌∷◌, map, sym, subst, arith}
 use Rattle.std.specs.Prelude.{All, Contains}
-use lib.ListN.{length-map}
 use Rattle.running_site.specs.Passes.{TablePass, number_of, numbers_to}
 use Rattle.running_site.specs.declared.pass.PassOf.{PassOf}
-
--- the one that was popped
-pub one-popped : {P K : Type 0} (f : P → K) (xs front : List P) (p : P) (a : K)
-    → map f xs ≡ a ∷ [] → xs ≡ front ++ p ∷ [] → f p ≡ a
-one-popped f xs [] p a known last =
-    let all : map f (p ∷ []) ≡ a ∷ [] = ap (map f) (sym last) ∙ known in
-    ap (λ l. get_or l 0 a) all
-one-popped f xs (z ∷ zs) p a known last =
-    let counted = ap length known in
-    let mapped = length-map xs f in
-    let one = ap length last in
-    let two = length-append (z ∷ zs) (p ∷ []) in absurd (omega arith)
 
 -- what is so of one thing is so of each of one
 one : {P : Type 0} (Holds : P → Type 0) (p : P) → Holds p → All Holds (p ∷ [])
