@@ -8,6 +8,8 @@ mod of_eval;
 #[cfg(test)]
 mod of_eval_limits;
 #[cfg(test)]
+mod of_pass_calls;
+#[cfg(test)]
 mod of_readme;
 #[cfg(test)]
 mod of_scripts;

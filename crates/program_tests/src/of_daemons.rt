@@ -5,6 +5,7 @@ use crate::running::{Wanted, a_run, add_all, is_so};
 use crate::samples::UPDATED;
 use io_edge::{MemorySource, NoGate};
 use std::alloc::Global;
+use std::sync::Wait;
 use std::test::Fail;
 use std::thread::Threads;
 use tuple_values::{Bytes, Memory, Numbers};
@@ -113,7 +114,7 @@ fn session(alloc: Global) -> Result<Bytes, Memory> {
 
 // Whether a script over a source, checkpoints and a destination answers the session so, where its
 // bytes come in pieces of at most so many.
-fn runs<R: Threads + Sync>(rt: &R, alloc: Global, most: usize) -> Result<bool, Memory>
+fn runs<R: Threads + Wait + Sync>(rt: &R, alloc: Global, most: usize) -> Result<bool, Memory>
     requires { 0 < most }
 {
     let mut input = MemorySource::new(session(alloc)?, most, Numbers::new(alloc));

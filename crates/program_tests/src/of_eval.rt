@@ -1,6 +1,7 @@
 // Whole runs of expressions, with replies that were worked out by hand.
 use crate::running::{Wanted, joined, leaves};
 use std::alloc::Global;
+use std::sync::Wait;
 use std::test::Fail;
 use std::thread::Threads;
 use tuple_values::{Bytes, Memory};
@@ -14,7 +15,7 @@ const EXCEPTION: &str = "{\"EOF\":true,\"EXCEPTION\":\"";
 const EXCEPTION_END: &str = "\",\"RESPONSE_TIME\":0}]}}";
 
 /// Whether an input is answered with these tuples.
-pub(crate) fn gives<R: Threads + Sync>(
+pub(crate) fn gives<R: Threads + Wait + Sync>(
     rt: &R,
     alloc: Global,
     words: &str,
@@ -35,7 +36,7 @@ pub(crate) fn gives<R: Threads + Sync>(
 }
 
 /// Whether this is told of an input's fault.
-pub(crate) fn tells<R: Threads + Sync>(
+pub(crate) fn tells<R: Threads + Wait + Sync>(
     rt: &R,
     alloc: Global,
     words: &str,
@@ -50,7 +51,7 @@ pub(crate) fn tells<R: Threads + Sync>(
     leaves(rt, alloc, words, input, wanted)
 }
 
-fn is_given<R: Threads + Sync>(
+fn is_given<R: Threads + Wait + Sync>(
     rt: &R,
     alloc: Global,
     words: &str,
@@ -60,7 +61,7 @@ fn is_given<R: Threads + Sync>(
     gives(rt, alloc, words, joined(alloc, &[input])?, tuples)
 }
 
-fn is_told<R: Threads + Sync>(
+fn is_told<R: Threads + Wait + Sync>(
     rt: &R,
     alloc: Global,
     words: &str,

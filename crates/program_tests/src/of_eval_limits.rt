@@ -3,6 +3,7 @@ use crate::of_eval::{END, OPENING, gives, tells};
 use crate::running::{Failing, Wanted, a_run, fails, joined, leaves, source};
 use io_edge::NoGate;
 use std::alloc::Global;
+use std::sync::Wait;
 use std::test::Fail;
 use std::thread::Threads;
 use tuple_values::{Bytes, Memory};
@@ -32,7 +33,7 @@ fn merged(alloc: Global, tuples: usize) -> Result<Bytes, Memory> {
     Ok(input)
 }
 
-fn are_levels<R: Threads + Sync>(rt: &R, alloc: Global) -> Result<bool, Memory> {
+fn are_levels<R: Threads + Wait + Sync>(rt: &R, alloc: Global) -> Result<bool, Memory> {
     Ok(
         gives(rt, alloc, "eval", sorts(alloc, 23)?, "{\"a\":1}")?
             && tells(rt, alloc, "eval", sorts(alloc, 24)?, "TooLarge")?,
@@ -42,7 +43,7 @@ fn are_levels<R: Threads + Sync>(rt: &R, alloc: Global) -> Result<bool, Memory> 
 // How long an answer with 199 tuples of no field is, with a comma behind each.
 const WIDE: usize = OPENING.len() + 3 * 199 + END.len();
 
-fn is_wide<R: Threads + Sync>(rt: &R, alloc: Global) -> Result<bool, Memory> {
+fn is_wide<R: Threads + Wait + Sync>(rt: &R, alloc: Global) -> Result<bool, Memory> {
     let mut input = source(alloc, merged(alloc, 199)?, None)?;
     let ran = a_run(rt, alloc, "eval", &mut input, None, &NoGate)?;
     Ok(ran.status == 0 && ran.output.bytes().len() == WIDE)
@@ -56,7 +57,7 @@ fn an_expression_has_24_levels_and_200_calls_at_most(rt: HostRuntime) -> Result<
     Ok(())
 }
 
-fn is_bytes_told<R: Threads + Sync>(
+fn is_bytes_told<R: Threads + Wait + Sync>(
     rt: &R,
     alloc: Global,
     bytes: &[u8],
@@ -98,7 +99,11 @@ const REFUSED: [&str; 8] = [
     "--help",
 ];
 
-fn is_refused<R: Threads + Sync>(rt: &R, alloc: Global, words: &str) -> Result<bool, Memory> {
+fn is_refused<R: Threads + Wait + Sync>(
+    rt: &R,
+    alloc: Global,
+    words: &str,
+) -> Result<bool, Memory> {
     let wanted = Wanted {
         status: 2,
         output: &[],
@@ -115,7 +120,7 @@ fn other_words_are_refused(rt: HostRuntime) -> Result<(), Fail> {
     Ok(())
 }
 
-fn faults<R: Threads + Sync>(
+fn faults<R: Threads + Wait + Sync>(
     rt: &R,
     alloc: Global,
     failing: Failing,

@@ -3,6 +3,7 @@ use crate::of_eval::{gives, tells};
 use crate::running::{Wanted, answers, joined};
 use crate::samples::UPDATED;
 use std::alloc::Global;
+use std::sync::Wait;
 use std::test::Fail;
 use std::thread::Threads;
 use tuple_values::Memory;
@@ -46,7 +47,7 @@ fn the_fault_of_the_readme_is_told(rt: HostRuntime) -> Result<(), Fail> {
     Ok(())
 }
 
-fn feeds<R: Threads + Sync>(rt: &R, alloc: Global) -> Result<bool, Memory> {
+fn feeds<R: Threads + Wait + Sync>(rt: &R, alloc: Global) -> Result<bool, Memory> {
     let wanted = Wanted {
         status: 0,
         output: &[STARTED, UPDATED, FOUND],

@@ -7,12 +7,13 @@ use crate::samples::{
     THREE_WORKERS, UPDATED,
 };
 use std::alloc::Global;
+use std::sync::Wait;
 use std::test::Fail;
 use std::thread::Threads;
 use tuple_values::Memory;
 
 // Whether a script over two shards answers these requests so, to the end of its input.
-fn replies<R: Threads + Sync>(
+fn replies<R: Threads + Wait + Sync>(
     rt: &R,
     alloc: Global,
     requests: &[&str],
@@ -64,7 +65,7 @@ fn a_bad_body_is_told_and_the_script_goes_on(rt: HostRuntime) -> Result<(), Fail
     Ok(())
 }
 
-fn stops<R: Threads + Sync>(
+fn stops<R: Threads + Wait + Sync>(
     rt: &R,
     alloc: Global,
     request: &str,
@@ -98,7 +99,7 @@ fn a_script_continues_and_closes(rt: HostRuntime) -> Result<(), Fail> {
     Ok(())
 }
 
-fn faults<R: Threads + Sync>(
+fn faults<R: Threads + Wait + Sync>(
     rt: &R,
     alloc: Global,
     failing: Failing,

@@ -1,27 +1,34 @@
 // Tests of stream_handler: that a whole connection is served where there is memory, how long its
 // requests took by a clock, and that a stream may be given to another thread.
+ghost use Rattle.std.specs.Prelude.{IfOk};
+ghost use Rattle.running_site.specs.Sites.{IsPassAt};
+
 use crate::running::{is_joined, joined};
 use daemon_board::Board;
 use io_edge::{MemorySink, MemorySource, NoGate};
+use running_site::{Pass, Site, SiteOf};
 use server_edge::{Clock, MemoryClock, NoClock};
 use std::alloc::Global;
+use std::sync::Wait;
 use std::test::Fail;
 use std::thread::Threads;
 use stream_engine::Stream;
 use stream_handler::{End, SessionEnd, serve_connection};
-use stream_site::PlainSite;
+use stream_site::Turns;
 use tuple_values::{Memory, NameShards, Names, Numbers, Text};
 
-// A site with the collection `c` of two shards.
-fn site(alloc: Global) -> Result<PlainSite, Memory> {
+// A site with the collection `c` of two shards, and its one pass.
+pub(crate) fn alone(alloc: Global) -> Result<(Site, Pass), Memory>
+    ensures { IfOk result (λ made. IsPassAt made.0 made.1) }
+{
     let mut names = Names::new(alloc);
     let name = Text::of(alloc, "c")?;
     names.push(NameShards { name, shards: 2 })?;
-    PlainSite::start(alloc, names, 1_000_000)
+    SiteOf::start_alone(alloc, names, 1_000_000)
 }
 
 // How a connection of these pieces is served at a new site by a clock, seven bytes at a time.
-fn serve<R: Threads + Sync, C: Clock>(
+fn serve<R: Threads + Wait + Sync, C: Clock>(
     rt: &R,
     alloc: Global,
     pieces: &[&str],
@@ -29,18 +36,22 @@ fn serve<R: Threads + Sync, C: Clock>(
     clock: &C,
 ) -> Result<SessionEnd, Memory> {
     let mut source = MemorySource::new(joined(alloc, pieces)?, 7, Numbers::new(alloc));
-    let mut site = site(alloc)?;
     let mut board = Board::empty(alloc);
-    Ok(serve_connection(
-        alloc,
+    let (site, mut pass) = alone(alloc)?;
+    let mut visit = site.visit(rt, &mut pass);
+    let served = serve_connection(
         rt,
-        &mut site,
+        alloc,
+        &mut visit,
         &mut board,
         &mut source,
         sink,
         clock,
         &NoGate,
-    ))
+    );
+    visit.leave();
+    visit.end(&mut pass);
+    Ok(served)
 }
 
 // Whether the exchange of this number has so many looks and steps.
@@ -51,19 +62,20 @@ fn has(served: &SessionEnd, number: usize, looks: usize, steps: usize) -> bool {
     }
 }
 
-const UPDATE: &str = "POST /solr/c/update?commit=true HTTP/1.1\r\nContent-Length: 20\r\n\r\n\
+pub(crate) const UPDATE: &str =
+    "POST /solr/c/update?commit=true HTTP/1.1\r\nContent-Length: 20\r\n\r\n\
      [{\"id\":\"1\",\"n_i\":5}]";
 
-const SEARCH: &str = "GET /solr/c/stream?expr=search(c,q%3D%22*:*%22,fl%3D%22id%22,\
+pub(crate) const SEARCH: &str = "GET /solr/c/stream?expr=search(c,q%3D%22*:*%22,fl%3D%22id%22,\
      sort%3D%22id+asc%22) HTTP/1.0\r\n\r\n";
 
-const UPDATED: &str = "HTTP/1.1 200 OK\r\nContent-Type: application/json\r\n\
+pub(crate) const UPDATED: &str = "HTTP/1.1 200 OK\r\nContent-Type: application/json\r\n\
      Content-Length: 41\r\n\r\n{\"responseHeader\":{\"status\":0,\"QTime\":0}}";
 
 const UPDATED_IN_7: &str = "HTTP/1.1 200 OK\r\nContent-Type: application/json\r\n\
      Content-Length: 41\r\n\r\n{\"responseHeader\":{\"status\":0,\"QTime\":7}}";
 
-const FOUND: &str = "HTTP/1.1 200 OK\r\nContent-Type: application/json\r\n\
+pub(crate) const FOUND: &str = "HTTP/1.1 200 OK\r\nContent-Type: application/json\r\n\
      Content-Length: 67\r\nConnection: close\r\n\r\n\
      {\"result-set\":{\"docs\":[{\"id\":\"1\"},{\"EOF\":true,\"RESPONSE_TIME\":0}]}}";
 
@@ -75,7 +87,7 @@ fn is_closed(served: &SessionEnd) -> bool {
         && has(served, 1, 2, 0)
 }
 
-fn is_served<R: Threads + Sync>(rt: &R, alloc: Global) -> Result<bool, Memory> {
+fn is_served<R: Threads + Wait + Sync>(rt: &R, alloc: Global) -> Result<bool, Memory> {
     let mut sink = MemorySink::new(alloc, Numbers::new(alloc));
     let served = serve(rt, alloc, &[UPDATE, SEARCH, UPDATE], &mut sink, &NoClock)?;
     Ok(is_closed(&served) && is_joined(sink.bytes(), &[UPDATED, FOUND]))
@@ -105,7 +117,7 @@ fn falling_clock(alloc: Global) -> Result<MemoryClock, Memory> {
 }
 
 // Whether the first of two requests took 7 milliseconds by a clock, and the second none.
-fn is_timed<R: Threads + Sync, C: Clock>(
+fn is_timed<R: Threads + Wait + Sync, C: Clock>(
     rt: &R,
     alloc: Global,
     clock: &C,
@@ -119,7 +131,7 @@ fn is_timed<R: Threads + Sync, C: Clock>(
     )
 }
 
-fn are_timed<R: Threads + Sync>(rt: &R, alloc: Global) -> Result<bool, Memory> {
+fn are_timed<R: Threads + Wait + Sync>(rt: &R, alloc: Global) -> Result<bool, Memory> {
     let clock = falling_clock(alloc)?;
     is_timed(
         rt,
@@ -135,7 +147,7 @@ fn a_request_takes_what_went_by_on_the_clock(rt: HostRuntime) -> Result<(), Fail
     Ok(())
 }
 
-fn end_of<R: Threads + Sync>(rt: &R, alloc: Global, bytes: &str) -> Result<End, Memory> {
+fn end_of<R: Threads + Wait + Sync>(rt: &R, alloc: Global, bytes: &str) -> Result<End, Memory> {
     let mut sink = MemorySink::new(alloc, Numbers::new(alloc));
     let served = serve(rt, alloc, &[bytes], &mut sink, &NoClock)?;
     Ok(served.end)

@@ -1,6 +1,7 @@
 // Runs in memory, and what they are compared with.
 use io_edge::{Gate, MemorySink, MemorySource, NoGate};
 use std::alloc::Global;
+use std::sync::Wait;
 use std::thread::Threads;
 use stream_commands::run_words;
 use tuple_values::{Bytes, Memory, Numbers, Text, Words};
@@ -98,7 +99,7 @@ fn not_ran(alloc: Global, failing: Option<u64>) -> Result<Ran, Memory> {
     })
 }
 
-fn run<R: Threads + Sync, G: Gate>(
+fn run<R: Threads + Wait + Sync, G: Gate>(
     rt: &R,
     alloc: Global,
     words: &str,
@@ -120,7 +121,7 @@ fn run<R: Threads + Sync, G: Gate>(
 }
 
 /// What the command of these words leaves; this call of output fails.
-pub(crate) fn a_run<R: Threads + Sync, G: Gate>(
+pub(crate) fn a_run<R: Threads + Wait + Sync, G: Gate>(
     rt: &R,
     alloc: Global,
     words: &str,
@@ -149,7 +150,7 @@ pub(crate) fn is_so(ran: &Ran, wanted: Wanted) -> bool {
 }
 
 /// Whether a command leaves what is wanted of this input.
-pub(crate) fn leaves<R: Threads + Sync>(
+pub(crate) fn leaves<R: Threads + Wait + Sync>(
     rt: &R,
     alloc: Global,
     words: &str,
@@ -162,7 +163,7 @@ pub(crate) fn leaves<R: Threads + Sync>(
 }
 
 /// Whether a script answers these requests so.
-pub(crate) fn answers<R: Threads + Sync>(
+pub(crate) fn answers<R: Threads + Wait + Sync>(
     rt: &R,
     alloc: Global,
     words: &str,
@@ -173,7 +174,7 @@ pub(crate) fn answers<R: Threads + Sync>(
 }
 
 /// Whether a command ends with this line, and no output, where this call fails.
-pub(crate) fn fails<R: Threads + Sync>(
+pub(crate) fn fails<R: Threads + Wait + Sync>(
     rt: &R,
     alloc: Global,
     words: &str,

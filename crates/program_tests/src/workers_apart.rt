@@ -3,6 +3,7 @@ use crate::running::{Wanted, a_run, is_so, joined, source};
 use crate::samples::{GROUPS, PUT_THREE, TWO_WORKERS, UPDATED};
 use io_edge::{Gate, Point};
 use std::alloc::Global;
+use std::sync::Wait;
 use std::sync::atomic::{AtomicBool, Ordering};
 use std::test::Fail;
 use std::thread::Threads;
@@ -38,7 +39,11 @@ impl Gate for Apart {
     }
 }
 
-fn is_answered<R: Threads + Sync>(rt: &R, alloc: Global, gate: &Apart) -> Result<bool, Memory> {
+fn is_answered<R: Threads + Wait + Sync>(
+    rt: &R,
+    alloc: Global,
+    gate: &Apart,
+) -> Result<bool, Memory> {
     let mut input = source(alloc, joined(alloc, &[PUT_THREE, TWO_WORKERS])?, None)?;
     let ran = a_run(rt, alloc, "script c=2", &mut input, None, gate)?;
     let wanted = Wanted {
