@@ -120,15 +120,15 @@ fn gives(cursor: &mut SearchCursor, ids: &str) -> Result<bool, Memory> {
 
 // Whether a search gives these ids over a cut.
 fn finds<R: Threads + Sync>(
-    alloc: Global,
     rt: &R,
+    alloc: Global,
     search: &Expr,
     cut: &Cut,
     ids: &str,
 ) -> Result<bool, Memory> {
     match search {
         Expr::Search { .. } => {
-            let mut cursor = SearchCursor::make(alloc, rt, search, cut, Part::whole())?;
+            let mut cursor = SearchCursor::make(rt, alloc, search, cut, Part::whole())?;
             gives(&mut cursor, ids)
         }
         _ => Ok(false),
@@ -136,14 +136,14 @@ fn finds<R: Threads + Sync>(
 }
 
 fn is_found<R: Threads + Sync>(
-    alloc: Global,
     rt: &R,
+    alloc: Global,
     cut: &Cut,
     found: &(&str, Option<u64>, &str),
 ) -> Result<bool, Fail> {
     let (q, rows, ids) = *found;
     let search = search(alloc, q, rows)?;
-    Ok(finds(alloc, rt, &search, cut, ids)?)
+    Ok(finds(rt, alloc, &search, cut, ids)?)
 }
 
 // A query, the rows that are taken, and the ids that are given.
@@ -157,24 +157,24 @@ const FOUND: [(&str, Option<u64>, &str); 6] = [
 ];
 
 // How many rows of the table are found, from the first on.
-fn found_by<R: Threads + Sync>(alloc: Global, rt: &R, cut: &Cut) -> Result<usize, Fail> {
+fn found_by<R: Threads + Sync>(rt: &R, alloc: Global, cut: &Cut) -> Result<usize, Fail> {
     for (k, found) in FOUND.iter().enumerate() {
-        if !is_found(alloc, rt, cut, found)? {
+        if !is_found(rt, alloc, cut, found)? {
             return Ok(k);
         }
     }
     Ok(FOUND.len())
 }
 
-fn found_in_all<R: Threads + Sync>(alloc: Global, rt: &R) -> Result<usize, Fail> {
+fn found_in_all<R: Threads + Sync>(rt: &R, alloc: Global) -> Result<usize, Fail> {
     let mut cut = Cut::new(alloc);
     push_all(alloc, &mut cut)?;
-    found_by(alloc, rt, &cut)
+    found_by(rt, alloc, &cut)
 }
 
 #[test]
 fn a_search_sorts_what_matches_and_then_takes_rows(rt: HostRuntime) -> Result<(), Fail> {
-    assert_eq!(rt; found_in_all(rt.alloc(), &rt)?, FOUND.len());
+    assert_eq!(rt; found_in_all(&rt, rt.alloc())?, FOUND.len());
     Ok(())
 }
 
@@ -183,15 +183,15 @@ fn push_empty(alloc: Global, cut: &mut Cut) -> Result<(), Fail> {
     push(alloc, cut, "c", &[])
 }
 
-fn is_none_found<R: Threads + Sync>(alloc: Global, rt: &R) -> Result<bool, Fail> {
+fn is_none_found<R: Threads + Sync>(rt: &R, alloc: Global) -> Result<bool, Fail> {
     let mut cut = Cut::new(alloc);
     push_empty(alloc, &mut cut)?;
-    is_found(alloc, rt, &cut, &("*:*", None, ""))
+    is_found(rt, alloc, &cut, &("*:*", None, ""))
 }
 
 #[test]
 fn two_empty_shards_give_nothing(rt: HostRuntime) -> Result<(), Fail> {
-    assert!(rt; is_none_found(rt.alloc(), &rt)?);
+    assert!(rt; is_none_found(&rt, rt.alloc())?);
     Ok(())
 }
 

@@ -61,7 +61,7 @@ fn are_first(first: &Chunks) -> bool {
 }
 
 fn are_found<R: Threads + Sync>(rt: &R, alloc: Global, first: &Chunks) -> bool {
-    match scan(alloc, rt, first, &From { version: 2998 }) {
+    match scan(rt, alloc, first, &From { version: 2998 }) {
         Ok(places) => places.as_slice() == [2998, 2999].as_slice(),
         Err(_) => false,
     }

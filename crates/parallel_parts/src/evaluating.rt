@@ -22,8 +22,8 @@ use tuple_values::{Memory, Tuples};
 /// collections. The work of each `parallel` is split among its workers, each in a thread of its own
 /// where one can be started; the gate is told in the worker where it begins and ends.
 pub fn eval<R: Threads + Sync, G: Gate>(
-    alloc: Global,
     rt: &R,
+    alloc: Global,
     checked: &Checked,
     cut: &Cut,
     gate: &G,
@@ -33,15 +33,15 @@ pub fn eval<R: Threads + Sync, G: Gate>(
         ≡ list_of (λ c. documents_of c cut.now) (tree_of checked.now)) }
 {
     let _expr = checked.expr();
-    let feeds = fed_lists(alloc, rt, checked.parallels(), cut, gate)?;
-    let stream = open_stream(alloc, rt, checked, cut, feeds, Part::whole())?;
+    let feeds = fed_lists(rt, alloc, checked.parallels(), cut, gate)?;
+    let stream = open_stream(rt, alloc, checked, cut, feeds, Part::whole())?;
     drain(alloc, stream)
 }
 
 // The lists that parallels give, in their order.
 fn fed_lists<R: Threads + Sync, G: Gate>(
-    alloc: Global,
     rt: &R,
+    alloc: Global,
     parts: &[ParallelPart],
     cut: &Cut,
     gate: &G,
@@ -52,15 +52,15 @@ fn fed_lists<R: Threads + Sync, G: Gate>(
 {
     let mut feeds = Feeds::new(alloc);
     for part in parts {
-        feeds.push(fed_list(alloc, rt, part, cut, gate)?)?;
+        feeds.push(fed_list(rt, alloc, part, cut, gate)?)?;
     }
     Ok(feeds)
 }
 
 // The list that a parallel gives: the merge of its workers' lists by its sort.
 fn fed_list<R: Threads + Sync, G: Gate>(
-    alloc: Global,
     rt: &R,
+    alloc: Global,
     part: &ParallelPart,
     cut: &Cut,
     gate: &G,
@@ -69,7 +69,7 @@ fn fed_list<R: Threads + Sync, G: Gate>(
     ensures { IfOk result (λ tuples. tuples
         ≡ list_of (λ c. documents_of c cut.now) (tree_of part.now.checked)) }
 {
-    let lists = worked(alloc, rt, part, cut, gate)?;
+    let lists = worked(rt, alloc, part, cut, gate)?;
     let merged = merge_lists(alloc, lists, &part.sort)?;
     drain(alloc, merged)
 }

@@ -39,8 +39,8 @@ fn jobs_among(alloc: Global, workers: u16) -> Result<Vec<Job>, Memory>
 
 // The tuples of one part, counted from 0.
 fn tuples_of<R: Threads + Sync>(
-    alloc: Global,
     rt: &R,
+    alloc: Global,
     part: &ParallelPart,
     cut: &Cut,
     index: u16,
@@ -55,7 +55,7 @@ fn tuples_of<R: Threads + Sync>(
         index,
         of: part.workers,
     };
-    let stream = open_stream(alloc, rt, &part.checked, cut, Feeds::new(alloc), of)?;
+    let stream = open_stream(rt, alloc, &part.checked, cut, Feeds::new(alloc), of)?;
     drain(alloc, stream)
 }
 
@@ -75,7 +75,7 @@ fn work_part<R: Threads + Sync, G: Gate>(
 {
     let Job { alloc, index } = job;
     gate.at(Point::WorkerStarts { part: index });
-    let tuples = tuples_of(alloc, rt, part, cut, index);
+    let tuples = tuples_of(rt, alloc, part, cut, index);
     gate.at(Point::WorkerEnds { part: index });
     tuples
 }
@@ -94,8 +94,8 @@ fn all_given(alloc: Global, results: Vec<Result<Tuples, Memory>>) -> Result<Vec<
 /// The lists of all parts of a parallel's work over a cut, in their order. Each worker does its part
 /// in a thread of its own; where no thread can be started the caller does that work.
 pub(crate) fn worked<R: Threads + Sync, G: Gate>(
-    alloc: Global,
     rt: &R,
+    alloc: Global,
     part: &ParallelPart,
     cut: &Cut,
     gate: &G,

@@ -27,7 +27,7 @@ fn evaluate<R: Threads + Sync, G: Gate>(
     requires { IsPlain (tree_of checked.now) }
     ensures { IfOk result (λ docs. docs ≡ list_over (tree_of checked.now) cut.now) }
 {
-    eval(alloc, rt, checked, cut, gate)
+    eval(rt, alloc, checked, cut, gate)
 }
 
 /// The tuples that an expression which only reads gives at the site, over a cut of its collections.

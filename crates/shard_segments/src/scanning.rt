@@ -26,8 +26,8 @@ pub trait DocTest: Sync {
 /// Just the places, counted from 0, of the slots that meet the test, ascending. Many slots are tested
 /// in several threads, each a piece of them.
 pub fn scan<R: Threads + Sync, T: DocTest>(
-    alloc: Global,
     rt: &R,
+    alloc: Global,
     chunks: &Chunks,
     test: &T,
 ) -> Result<Places, Memory>

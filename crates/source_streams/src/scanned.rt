@@ -14,8 +14,8 @@ use tuple_values::{Memory, Tuple};
 /// Adds the documents of a snapshot that are wanted, in their order. Where most slots are current
 /// ones all are scanned, else the documents are looked at one by one.
 pub(crate) fn add_matching<'a, R: Threads + Sync>(
-    alloc: Global,
     rt: &R,
+    alloc: Global,
     found: &mut Vec<&'a Tuple>,
     wanted: &Wanted,
     snapshot: &'a Snapshot,
@@ -28,7 +28,7 @@ pub(crate) fn add_matching<'a, R: Threads + Sync>(
     if snapshot.chunks().len() / 2 > snapshot.count() {
         return add_each(found, wanted, snapshot);
     }
-    let places = scan(alloc, rt, snapshot.chunks(), wanted)?;
+    let places = scan(rt, alloc, snapshot.chunks(), wanted)?;
     add_scanned(found, wanted, snapshot, places.as_slice())
 }
 

@@ -51,8 +51,8 @@ impl SearchCursor {
     /// n log n comparisons of the n matching ones of the part (of all parts where there are `rows`),
     /// and copies what it gives.
     pub fn make<R: Threads + Sync>(
-        alloc: Global,
         rt: &R,
+        alloc: Global,
         search: &Expr,
         cut: &Cut,
         part: Part,
@@ -79,7 +79,7 @@ impl SearchCursor {
             keys: keys_or_none(partition_keys.as_ref(), &none),
             part: early_part(part, *rows),
         };
-        let found = matching(alloc, rt, &wanted, collection, cut.as_slice())?;
+        let found = matching(rt, alloc, &wanted, collection, cut.as_slice())?;
         let by = by_id(alloc, sort)?;
         let found = sort_lent(found, &by)?;
         let first = first_of(found.as_slice(), *rows);
@@ -97,8 +97,8 @@ impl SearchCursor {
 }
 
 fn matching<'a, R: Threads + Sync>(
-    alloc: Global,
     rt: &R,
+    alloc: Global,
     wanted: &Wanted,
     collection: &Text,
     cut: &'a [CutPart],
@@ -110,7 +110,7 @@ fn matching<'a, R: Threads + Sync>(
     let mut found = Vec::new(alloc);
     for part in cut {
         if part.collection.as_str() == collection.as_str() {
-            add_matching(alloc, rt, &mut found, wanted, &part.snapshot)?;
+            add_matching(rt, alloc, &mut found, wanted, &part.snapshot)?;
         }
     }
     Ok(found)

@@ -51,8 +51,8 @@ pub type Feeds = Vec<Tuples>;
 /// input gives. Where there are several parts the expression has partition keys, by which the part
 /// is taken.
 pub fn open_stream<R: Threads + Sync>(
-    alloc: Global,
     rt: &R,
+    alloc: Global,
     checked: &Checked,
     cut: &Cut,
     feeds: Feeds,
@@ -70,7 +70,7 @@ pub fn open_stream<R: Threads + Sync>(
     ensures lives { IfOk result (λ stream. stream.2 ≡ false) }
 {
     let mut feeds = VecDeque::from(feeds);
-    let opened = open_expr(alloc, rt, checked.expr(), cut, &mut feeds, part)?;
+    let opened = open_expr(rt, alloc, checked.expr(), cut, &mut feeds, part)?;
     Ok(opened.stream)
 }
 
@@ -116,8 +116,8 @@ struct OpenedInputs {
 // its inputs are found once, on the way up; a parallel's stream is the first of the feeds.
 #[cycle(opening)]
 fn open_expr<R: Threads + Sync>(
-    alloc: Global,
     rt: &R,
+    alloc: Global,
     expr: &Expr,
     cut: &Cut,
     feeds: &mut VecDeque<Tuples>,
@@ -146,8 +146,8 @@ fn open_expr<R: Threads + Sync>(
         streams,
         orders,
         fields,
-    } = open_inputs(alloc, rt, expr, cut, feeds, part)?;
-    let stream = open_over(alloc, rt, expr, streams, orders.as_slice(), cut, part)?;
+    } = open_inputs(rt, alloc, expr, cut, feeds, part)?;
+    let stream = open_over(rt, alloc, expr, streams, orders.as_slice(), cut, part)?;
     let order = order_given(alloc, expr, orders, fields.as_slice())?;
     let fields = fields_given(alloc, expr, fields)?;
     Ok(Opened {
@@ -210,8 +210,8 @@ fn open_parallel(alloc: Global, expr: &Expr, feeds: &mut VecDeque<Tuples>) -> Re
 // The streams of an expression's inputs in a part, in their order, with their orders and fields.
 #[cycle(opening)]
 fn open_inputs<R: Threads + Sync>(
-    alloc: Global,
     rt: &R,
+    alloc: Global,
     expr: &Expr,
     cut: &Cut,
     feeds: &mut VecDeque<Tuples>,
@@ -238,7 +238,7 @@ fn open_inputs<R: Threads + Sync>(
     let mut orders = Vec::new(alloc);
     let mut fields = Vec::new(alloc);
     for k in 0..expr.input_count() {
-        let opened = open_expr(alloc, rt, expr.input(k), cut, feeds, part)?;
+        let opened = open_expr(rt, alloc, expr.input(k), cut, feeds, part)?;
         streams.push(opened.stream)?;
         orders.push(opened.order)?;
         fields.push(opened.fields)?;
@@ -252,8 +252,8 @@ fn open_inputs<R: Threads + Sync>(
 
 // The stream of a function over the streams of its inputs, which come in these orders.
 fn open_over<R: Threads + Sync>(
-    alloc: Global,
     rt: &R,
+    alloc: Global,
     expr: &Expr,
     inputs: Vec<Stream>,
     orders: &[Order],
@@ -272,7 +272,7 @@ fn open_over<R: Threads + Sync>(
     ensures lives { IfOk result (λ stream. stream.2 ≡ false) }
 {
     match expr {
-        Expr::Search { .. } => open_search(alloc, rt, expr, cut, part),
+        Expr::Search { .. } => open_search(rt, alloc, expr, cut, part),
         Expr::Tuple { .. } => open_tuple(alloc, expr),
         Expr::Select { items, .. } => select(alloc, only(inputs), items),
         Expr::Having { condition, .. } => having(alloc, only(inputs), condition),
@@ -306,8 +306,8 @@ fn only(inputs: Vec<Stream>) -> Stream
 }
 
 fn open_search<R: Threads + Sync>(
-    alloc: Global,
     rt: &R,
+    alloc: Global,
     search: &Expr,
     cut: &Cut,
     part: Part,
@@ -319,7 +319,7 @@ fn open_search<R: Threads + Sync>(
         (operator_in (expr_tree search.now)) lists) }
     ensures lives { IfOk result (λ stream. stream.2 ≡ false) }
 {
-    let cursor = SearchCursor::make(alloc, rt, search, cut, part)?;
+    let cursor = SearchCursor::make(rt, alloc, search, cut, part)?;
     Ok(Stream::search(cursor))
 }
 
