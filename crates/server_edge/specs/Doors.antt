@@ -1,5 +1,5 @@
 -- What a door gives and takes back, and when it has failed (own).
-use Rattle.std.specs.Prelude.{ℕ, ◌≡◌, ◌≤◌, ◌<◌, ◌+◌, List, [], ◌∷◌, ◌++◌, length, Option, Some, None}
+use Rattle.std.specs.Prelude.{ℕ, ◌≡◌, ◌≢◌, ◌≤◌, ◌<◌, ◌+◌, List, [], ◌∷◌, ◌++◌, length, Option, Some, None}
 use Rattle.io_edge.specs.Edge.{Rose}
 use Rattle.server_edge.specs.declared.door.Back.{Back}
 use Rattle.server_edge.specs.declared.door.Listen.{Listen}
@@ -17,11 +17,11 @@ pub record Row (I O N : Type 0) : Type 0 where
 abbrev pub HasRoom : {I O N : Type 0} → Row I O N → Type 0
 HasRoom r = length r.came < r.given + length r.left
 
--- neither count falls; both rise with a failure, and the second with nothing else
+-- neither count falls; both rise with a failure, and neither with anything else
 pub record ListenHasCause (old new deaf_old deaf_new : ℕ) (answer : Listen) : Type 0 where
   pub stays : old ≤ new
   pub deaf_stays : deaf_old ≤ deaf_new
-  pub ready : answer ≡ listen.Ready → deaf_new ≡ deaf_old
+  pub ready : answer ≡ listen.Ready → (new ≡ old) × (deaf_new ≡ deaf_old)
   pub rose : answer ≡ listen.Failed → Rose old new × Rose deaf_old deaf_new
 
 -- what was given is the first of those that were left, where the door tells them
@@ -42,10 +42,11 @@ NextGives old new (Got input output) = GaveFirst old new input output
 NextGives old new Closed = IsEmptied old × (new ≡ old)
 NextGives old new Failed = new ≡ old
 
--- the count doesn't fall, and an answer of failure shows that it rose
+-- the count doesn't fall; it rises with a failure, and with nothing else
 pub record NextHasCause {I O : Type 0} (old new : ℕ) (answer : Next I O) : Type 0 where
   pub stays : old ≤ new
   pub rose : answer ≡ Failed → Rose old new
+  pub still : answer ≢ Failed → new ≡ old
 
 -- the ends and the note follow those that came back before, where there is room
 abbrev pub TakesBack : {I O N : Type 0} → Option (Row I O N) → Option (Row I O N) → I → O → N → Type 0
