@@ -1,14 +1,15 @@
 // A cut of one collection.
 ghost use Rattle.std.specs.Prelude.{◌≡◌, IfOk, OnOk};
-ghost use Rattle.exchange_rules.specs.Following.{Grows};
+ghost use Rattle.exchange_rules.specs.Bindings.{book_seen};
 ghost use Rattle.case_items.specs.Items.{AreShown};
+ghost use Rattle.case_items.specs.Stores.{ShowsAll};
 
 use shard_versions::Cut;
 use std::alloc::Global;
 use stream_site::{Turns, take_cut_over};
 use tuple_values::{FieldList, Memory, Text, TryCopy};
 
-/// One look at each shard of the collection.
+/// One look at each shard of the collection, and none at the book.
 pub(crate) fn cut_of<T: Turns>(
     alloc: Global,
     site: &mut T,
@@ -16,7 +17,10 @@ pub(crate) fn cut_of<T: Turns>(
 ) -> Result<Cut, Memory>
     ensures shown { IfOk result (AreShown (T.layout site.old).names (T.writer site.new).seen
         collection.now) }
-    ensures grown { OnOk result (Grows (T.writer site.old).seen (T.writer site.new).seen) }
+    ensures whole { IfOk result (ShowsAll (T.layout site.old).names (T.writer site.new).seen
+        collection.now) }
+    ensures book { OnOk result (book_seen (T.layout site.old) (T.writer site.new)
+        ≡ book_seen (T.layout site.old) (T.writer site.old)) }
     ensures layout { T.layout site.new ≡ T.layout site.old }
     ensures home { T.home site.new ≡ T.home site.old }
 {

@@ -1,12 +1,11 @@
 // The test of what a Store asks, for topics that deliver nowhere.
-ghost use Rattle.std.specs.Prelude.{◌≡◌, ◌<◌, ◌^◌, IfOk, IfSome, IsTrue, length};
+ghost use Rattle.std.specs.Prelude.{◌≡◌, ◌<◌, ◌^◌, Decides, IfNone, IfOk, IfSome, IsTrue, length};
 ghost use Rattle.topic_book.specs.Cells.{cells_in};
 ghost use Rattle.topic_book.specs.Fitness.{shards_of};
 ghost use Rattle.once_core.specs.Allowed.{AreReached, MayStore};
 ghost use Rattle.exchange_rules.specs.Bindings.{book_cell, book_seen};
 ghost use Rattle.site_laws.specs.SiteCells.{histories_in};
-ghost use Rattle.case_items.specs.Items.{AreShown};
-ghost use Rattle.case_items.specs.Stores.{IsBoundNowhere, IsReachedPart};
+ghost use Rattle.case_items.specs.Stores.{IsBoundNowhere, IsReachedPart, MayStoreNowhere, ShowsAll};
 
 use crate::source::cut_of;
 use shard_versions::{Cut, CutPart};
@@ -31,8 +30,10 @@ fn book_cell(names: &Names) -> u32
 // topic.
 fn source_seen<T: Turns>(alloc: Global, site: &T, key: &TopicKey) -> Result<Option<Text>, Memory>
     requires { T.holds site.now (book_cell (T.layout site.now).names) }
-    ensures { IfOk result (λ source. IfSome source (λ src.
+    ensures found { IfOk result (λ source. IfSome source (λ src.
         IsBoundNowhere key.now src (book_seen (T.layout site.now) (T.writer site.now)))) }
+    ensures absent { IfOk result (λ source. IfNone source ((src : _)
+        → ¬ (IsBoundNowhere key.now src (book_seen (T.layout site.now) (T.writer site.now))))) }
 {
     match site.bound(key) {
         Some(binding) => match &binding.dest {
@@ -43,10 +44,12 @@ fn source_seen<T: Turns>(alloc: Global, site: &T, key: &TopicKey) -> Result<Opti
     }
 }
 
-// One look at the book: the source of a topic that delivers nowhere.
+// One look at the book: the source of a topic that delivers nowhere; none of another topic.
 fn source_of<T: Turns>(alloc: Global, site: &mut T, key: &TopicKey) -> Result<Option<Text>, Memory>
-    ensures bound { IfOk result (λ source. IfSome source (λ src.
+    ensures found { IfOk result (λ source. IfSome source (λ src.
         IsBoundNowhere key.now src (book_seen (T.layout site.old) (T.writer site.new)))) }
+    ensures absent { IfOk result (λ source. IfNone source ((src : _)
+        → ¬ (IsBoundNowhere key.now src (book_seen (T.layout site.old) (T.writer site.new))))) }
     ensures layout { T.layout site.new ≡ T.layout site.old }
     ensures home { T.home site.new ≡ T.home site.old }
 {
@@ -57,7 +60,7 @@ fn source_of<T: Turns>(alloc: Global, site: &mut T, key: &TopicKey) -> Result<Op
 
 // Whether the part is of this shard, and the number at most its top.
 fn is_reached(part: &CutPart, shard: u16, number: u64) -> bool
-    ensures { IsTrue result → IsReachedPart part.now shard number }
+    ensures { Decides result (IsReachedPart part.now shard number) }
 {
     part.shard == shard && number <= part.snapshot.top()
 }
@@ -65,8 +68,8 @@ fn is_reached(part: &CutPart, shard: u16, number: u64) -> bool
 // Whether there is a part for each shard, and each number is at most its top.
 fn are_reached(cut: &Cut, shards: u16, upto: &[u64]) -> bool
     requires { length upto.now ≡ shards }
-    ensures { (names seen src : _) → AreShown names seen src cut.now → shards ≡ shards_of names src
-        → IsTrue result → AreReached names (histories_in names seen) src upto.now }
+    ensures { (names seen src : _) → ShowsAll names seen src cut.now → shards ≡ shards_of names src
+        → Decides result (AreReached names (histories_in names seen) src upto.now) }
 {
     for shard in 0..shards {
         let place = usize::from(shard);
@@ -87,8 +90,8 @@ fn may_store_over<T: Turns>(
     key: &TopicKey,
     upto: &Versions,
 ) -> Result<bool, Memory>
-    ensures allowed { IfOk result (λ may. IsTrue may → MayStore (T.layout site.old).names
-        (histories_in (T.layout site.old).names (T.writer site.new).seen) key.now upto.now) }
+    ensures exact { IfOk result (λ may. Decides may (MayStoreNowhere (T.layout site.old).names
+        (histories_in (T.layout site.old).names (T.writer site.new).seen) key.now upto.now)) }
     ensures layout { T.layout site.new ≡ T.layout site.old }
     ensures home { T.home site.new ≡ T.home site.old }
 {
@@ -112,6 +115,8 @@ pub fn may_store_nowhere<T: Turns>(
     key: &TopicKey,
     upto: &Versions,
 ) -> Result<bool, Memory>
+    ensures exact { IfOk result (λ may. Decides may (MayStoreNowhere (T.layout site.old).names
+        (histories_in (T.layout site.old).names (T.writer site.new).seen) key.now upto.now)) }
     ensures allowed { IfOk result (λ may. IsTrue may → MayStore (T.layout site.old).names
         (histories_in (T.layout site.old).names (T.writer site.new).seen) key.now upto.now) }
     ensures free { T.free site.new }

@@ -1,25 +1,38 @@
-use Rattle.std.proofs.Common.{◌≡◌, length, ap, subst, ◌∙◌, arith}
-use Rattle.std.specs.Prelude.{IfSome}
+use Rattle.std.proofs.Common.{◌≡◌, length, sym, ap, subst, ◌∙◌, arith}
+use Rattle.std.specs.Bool.{Decides}
+use Rattle.std.specs.Prelude.{IfNone, IfSome}
+use Rattle.tuple_values.specs.Document.{ByteList}
 use Rattle.topic_book.specs.Fitness.{shards_of}
 use Rattle.once_core.specs.Allowed.{AreReached}
 use Rattle.exchange_rules.specs.Bindings.{book_seen}
 use Rattle.exchange_rules.specs.Rows.{Layout}
 use Rattle.site_laws.specs.SiteCells.{histories_in}
-use Rattle.case_items.specs.Items.{AreShown}
-use Rattle.case_items.specs.Stores.{IsBoundNowhere}
-use Rattle.case_items.proofs.StoreLemmas.{nowhere-stored}
+use Rattle.case_items.specs.Stores.{IsBoundNowhere, ShowsAll}
+use Rattle.case_items.proofs.StoreLemmas.{counted-decided, not-nowhere}
 use Rattle.case_items.proofs.storing.may_store_over.Goals as goal
 
-pub returns-clause-allowed : goal.returns-clause-allowed
-returns-clause-allowed g c fine =
+pub returns-in_default-clause-exact : goal.returns-in_default-clause-exact
+returns-in_default-clause-exact g c =
+    let l = g.T.Turns.layout c.args.site.now in
+    let w = g.T.Turns.writer c.source_of.new.site in
+    let key = c.args.key.now in
+    not-nowhere l.names (histories_in l.names w.seen) key c.args.upto.now
+    (subst (λ o. IfNone o ((src : ByteList) → ¬ (IsBoundNowhere key src (book_seen l w))))
+    c.in_default.is c.in_ok-src.ensures.absent)
+
+pub returns-clause-exact : goal.returns-clause-exact
+returns-clause-exact g c =
     let l = g.T.Turns.layout c.args.site.now in
     let early = g.T.Turns.writer c.source_of.new.site in
     let late = g.T.Turns.writer c.cut_of.new.site in
+    let key = c.args.key.now in
     let src = c.in-Some.src in
-    let bound = subst (λ o. IfSome o (λ s. IsBoundNowhere c.args.key.now s (book_seen l early)))
-    c.in-Some.is c.in_ok-src.ensures.bound in
-    let shown = subst (λ (x : Layout). AreShown x.names late.seen src c.in_ok-cut.cut)
-    c.in_ok-src.ensures.layout c.in_ok-cut.ensures.shown in
+    let found = subst (λ o. IfSome o (λ s. IsBoundNowhere key s (book_seen l early)))
+    c.in-Some.is c.in_ok-src.ensures.found in
+    let book = subst (λ (x : Layout). book_seen x late ≡ book_seen x early)
+    c.in_ok-src.ensures.layout c.in_ok-cut.ensures.book in
+    let whole = subst (λ (x : Layout). ShowsAll x.names late.seen src c.in_ok-cut.cut)
+    c.in_ok-src.ensures.layout c.in_ok-cut.ensures.whole in
     let shards : c.shards_of-shards.result ≡ shards_of l.names src =
     c.shards_of-shards.ensures
     ∙ (ap (λ n. shards_of n c.as_str.result.now)
@@ -30,7 +43,8 @@ returns-clause-allowed g c fine =
     let wide = c.from.ensures in
     let counted : length c.args.upto.now ≡ shards_of l.names src =
     omega (arith, many, same, wide, shards) in
-    let reached = subst (AreReached l.names (histories_in l.names late.seen) src)
-    c.as_slice.ensures (c.are_reached.ensures l.names late.seen src shown shards fine) in
-    nowhere-stored l.names early.seen late.seen c.args.key.now src c.args.upto.now bound
-    c.in_ok-cut.ensures.grown counted reached
+    let hs = histories_in l.names late.seen in
+    let reached = subst (λ u. Decides c.are_reached.result (AreReached l.names hs src u))
+    c.as_slice.ensures (c.are_reached.ensures l.names late.seen src whole shards) in
+    counted-decided l.names hs key src c.args.upto.now c.are_reached.result
+    (subst (IsBoundNowhere key src) (sym book) found) counted reached

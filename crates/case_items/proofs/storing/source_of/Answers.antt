@@ -1,5 +1,6 @@
 use Rattle.std.proofs.Common.{◌<◌, ◌^◌, sym, ap, subst, ◌∙◌}
-use Rattle.std.specs.Prelude.{IfOk, IfSome}
+use Rattle.std.specs.Prelude.{IfNone, IfOk, IfSome}
+use Rattle.tuple_values.specs.Document.{ByteList}
 use Rattle.topic_book.specs.Cells.{cells_in}
 use Rattle.exchange_rules.specs.Bindings.{book_cell, book_seen}
 use Rattle.exchange_rules.specs.Rows.{Layout}
@@ -18,8 +19,14 @@ source_seen-requires g c =
     ∙ ap (λ (x : Layout). book_cell x.names) (sym c.in_ok-look.ensures.layout)))
     c.in_ok-look.ensures.holds
 
-pub returns-clause-bound : goal.returns-clause-bound
-returns-clause-bound g c =
+pub returns-clause-found : goal.returns-clause-found
+returns-clause-found g c =
     subst (λ (x : Layout). IfOk c.source_seen.result (λ source. IfSome source (λ src.
     IsBoundNowhere c.args.key.now src (book_seen x (g.T.Turns.writer c.look.new.self)))))
-    c.in_ok-look.ensures.layout c.source_seen.ensures
+    c.in_ok-look.ensures.layout c.source_seen.ensures.found
+
+pub returns-clause-absent : goal.returns-clause-absent
+returns-clause-absent g c =
+    subst (λ (x : Layout). IfOk c.source_seen.result (λ source. IfNone source ((src : ByteList)
+    → ¬ (IsBoundNowhere c.args.key.now src (book_seen x (g.T.Turns.writer c.look.new.self))))))
+    c.in_ok-look.ensures.layout c.source_seen.ensures.absent
