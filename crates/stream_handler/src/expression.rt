@@ -101,7 +101,7 @@ fn checked_question<T: Turns, R: Threads + Sync, G: Gate>(
         (Asks (root_ask (tree_of checked) (daemon_of (operator_in (tree_of checked))))) }
     ensures stays { Stays T.layout T.home T.free site.old site.new }
 {
-    let found = daemon_of(alloc, checked.expr())?;
+    let found = daemon_of(alloc, &checked)?;
     match found {
         Some(daemon) => Ok(Question::Start { daemon, checked }),
         None => {

@@ -1,9 +1,10 @@
 // Daemons that are put on the board.
 ghost use Rattle.std.specs.Prelude.{◌≡◌, IfOk};
-ghost use Rattle.expr_types.specs.ExprTree.{expr_tree, operator_in};
+ghost use Rattle.expr_check.specs.Views.{tree_of};
+ghost use Rattle.expr_types.specs.ExprTree.{operator_in};
 ghost use Rattle.stream_handler.specs.Asks.{daemon_of};
 
-use expr_types::Expr;
+use expr_check::{Checked, Root};
 use std::alloc::Global;
 use tuple_values::{Memory, Text, TryCopy};
 
@@ -16,40 +17,16 @@ pub struct NewDaemon {
     pub terminate: bool,
 }
 
-/// The daemon that an expression is, if it is one.
-pub(crate) fn daemon_of(alloc: Global, expr: &Expr) -> Result<Option<NewDaemon>, Memory>
-    ensures { IfOk result (λ daemon. daemon ≡ daemon_of (operator_in (expr_tree expr.now))) }
+/// The daemon that a checked expression is, if it is one.
+pub(crate) fn daemon_of(alloc: Global, checked: &Checked) -> Result<Option<NewDaemon>, Memory>
+    ensures { IfOk result (λ daemon. daemon ≡ daemon_of (operator_in (tree_of checked.now))) }
 {
-    match expr {
-        Expr::Search { .. }
-        | Expr::Tuple { .. }
-        | Expr::Select { .. }
-        | Expr::Having { .. }
-        | Expr::Sort { .. }
-        | Expr::Top { .. }
-        | Expr::Unique { .. }
-        | Expr::Merge { .. }
-        | Expr::Reduce { .. }
-        | Expr::Rollup { .. }
-        | Expr::InnerJoin { .. }
-        | Expr::LeftOuterJoin { .. }
-        | Expr::Intersect { .. }
-        | Expr::Complement { .. }
-        | Expr::HashJoin { .. }
-        | Expr::OuterHashJoin { .. }
-        | Expr::Parallel { .. }
-        | Expr::Topic { .. }
-        | Expr::Update { .. }
-        | Expr::Commit { .. } => Ok(None),
-        Expr::Daemon {
-            id,
-            interval,
-            terminate,
-            ..
-        } => Ok(Some(NewDaemon {
-            id: id.copy(alloc)?,
-            interval: *interval,
-            terminate: *terminate,
+    match checked.root() {
+        Root::Reads | Root::Topic(_) | Root::Update(_) | Root::Commit(_) => Ok(None),
+        Root::Daemon(daemon) => Ok(Some(NewDaemon {
+            id: daemon.id.copy(alloc)?,
+            interval: daemon.interval,
+            terminate: daemon.terminate,
         })),
     }
 }

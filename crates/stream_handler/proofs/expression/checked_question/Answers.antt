@@ -1,8 +1,7 @@
 use Rattle.std.proofs.Common.{sym, ap, ◌∙◌}
 use Rattle.std.proofs.lemmas.Result.{err_from_is_err_and}
 use Rattle.expr_check.specs.Views.{tree_of}
-use Rattle.expr_types.specs.ExprTree.{expr_tree, operator_in}
-use Rattle.expr_types.specs.declared.expr.Expr.{Expr}
+use Rattle.expr_types.specs.ExprTree.{operator_in}
 use Rattle.stream_handler.specs.Asks.{daemon_of, root_ask}
 use Rattle.stream_handler.specs.Requests.{root_or_told}
 use Rattle.stream_handler.specs.declared.question.Question.TheVariants as question
@@ -21,8 +20,7 @@ returns-in_err-found-clause-course g c =
 pub returns-in-Some-clause-course : goal.returns-in-Some-clause-course
 returns-in-Some-clause-course g c =
     let e = tree_of c.args.checked in
-    let is = ap (λ (x : Expr). daemon_of (operator_in (expr_tree x))) (sym c.expr.ensures.value)
-    ∙ sym c.in_ok-found.ensures ∙ c.in-Some.is in
+    let is = sym c.in_ok-found.ensures ∙ c.in-Some.is in
     root_told (g.T.Turns.layout c.args.site.now) e (daemon_of (operator_in e))
     (g.T.Turns.writer c.args.site.now) c.in-Some.daemon
     (question.Start c.in-Some.daemon c.args.checked) is
@@ -30,15 +28,13 @@ returns-in-Some-clause-course g c =
 pub returns-in-Some-clause-asks : goal.returns-in-Some-clause-asks
 returns-in-Some-clause-asks g c =
     let e = tree_of c.args.checked in
-    let is = ap (λ (x : Expr). daemon_of (operator_in (expr_tree x))) (sym c.expr.ensures.value)
-    ∙ sym c.in_ok-found.ensures ∙ c.in-Some.is in
+    let is = sym c.in_ok-found.ensures ∙ c.in-Some.is in
     sym (ap (root_ask e) is)
 
 pub returns-in_err-outcome-in-None-clause-course : goal.returns-in_err-outcome-in-None-clause-course
 returns-in_err-outcome-in-None-clause-course g c =
     let e = tree_of c.args.checked in
-    let is = ap (λ (x : Expr). daemon_of (operator_in (expr_tree x))) (sym c.expr.ensures.value)
-    ∙ sym c.in_ok-found.ensures ∙ c.in-None.is in
+    let is = sym c.in_ok-found.ensures ∙ c.in-None.is in
     let from = c.from_residual-in_err-outcome-in-None in
     let r = err_from_is_err_and from.result from.ensures.1 in
     root_stopped (g.T.Turns.layout c.args.site.now) e (daemon_of (operator_in e)) _ _
@@ -47,14 +43,12 @@ returns-in_err-outcome-in-None-clause-course g c =
 pub returns-in_ok-outcome-in-None-clause-course : goal.returns-in_ok-outcome-in-None-clause-course
 returns-in_ok-outcome-in-None-clause-course g c =
     let e = tree_of c.args.checked in
-    let is = ap (λ (x : Expr). daemon_of (operator_in (expr_tree x))) (sym c.expr.ensures.value)
-    ∙ sym c.in_ok-found.ensures ∙ c.in-None.is in
+    let is = sym c.in_ok-found.ensures ∙ c.in-None.is in
     root_done (g.T.Turns.layout c.args.site.now) e (daemon_of (operator_in e)) _ _
     c.in_ok-outcome-in-None.outcome is c.in_ok-outcome-in-None.ensures.course
 
 pub returns-in_ok-outcome-in-None-clause-asks : goal.returns-in_ok-outcome-in-None-clause-asks
 returns-in_ok-outcome-in-None-clause-asks g c =
     let e = tree_of c.args.checked in
-    let is = ap (λ (x : Expr). daemon_of (operator_in (expr_tree x))) (sym c.expr.ensures.value)
-    ∙ sym c.in_ok-found.ensures ∙ c.in-None.is in
+    let is = sym c.in_ok-found.ensures ∙ c.in-None.is in
     sym (ap (root_ask e) is)
