@@ -4,3 +4,4 @@ mod LoopLemmas
 mod PlaceLemmas
 pub mod RisingLemmas
 pub mod TicketLemmas
+pub mod SendLemmas

@@ -19,3 +19,4 @@ pub mod FitLemmas
 pub mod SignedLemmas
 pub mod AloneLemmas
 pub mod LoneLemmas
+pub mod SendLemmas

@@ -3,7 +3,8 @@ use Rattle.std.proofs.Common.{sym, subst}
 use Rattle.std.proofs.Crossing as heap
 use Rattle.atomic_table.proofs.shared.Seat.TheSendSync as seat
 use Rattle.site_threads.specs.Workers.{IsWorkerAt}
-use Rattle.thread_cases.proofs.SendLemmas.{baton_sync, cell_send, site_sync}
+use Rattle.running_site.proofs.SendLemmas.{cell_send, site_sync}
+use Rattle.thread_cases.proofs.SendLemmas.{baton_sync}
 use Rattle.thread_cases.proofs.workers.serve_all.Goals as goal
 
 pub for_each_mut-requires-send-T : goal.for_each_mut-requires-send-T
