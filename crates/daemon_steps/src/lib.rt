@@ -7,4 +7,5 @@ mod running;
 mod turn;
 
 pub use laws::steps_look_first;
+pub use once::{Once, run_once};
 pub use running::run_daemons;

@@ -17,14 +17,14 @@ use tuple_values::{Memory, Text};
 
 /// A run of a daemon: how many tuples it read, and the text of its fault, where it has one.
 #[derive(Drop)]
-pub(crate) struct Once {
-    pub(crate) read: u64,
-    pub(crate) fault: Option<Text>,
+pub struct Once {
+    pub read: u64,
+    pub fault: Option<Text>,
 }
 
 /// Runs the input of an expression once. The site's record begins anew. The writer has no turn
 /// afterwards.
-pub(crate) fn run_once<T: Turns, R: Threads + Sync, G: Gate>(
+pub fn run_once<T: Turns, R: Threads + Sync, G: Gate>(
     rt: &R,
     alloc: Global,
     site: &mut T,

@@ -10,6 +10,8 @@ use Rattle.exchange_rules.specs.declared.fault.SiteFault.{SiteFault}
 use Rattle.exchange_rules.specs.declared.fault.SiteFault.TheVariants.{ShardFull, TopicBound}
 use Rattle.exchange_rules.specs.declared.fault.SiteFault.TheVariants.{BookFull, OutOfMemory}
 use Rattle.exchange_rules.specs.declared.run.TopicFault.{TopicFault}
+use Rattle.daemon_steps.specs.Runs.{IsFollowed}
+use Rattle.daemon_steps.specs.declared.once.Once.{Once}
 use Rattle.expr_types.specs.ExprTree.{ExprTree}
 use Rattle.form_request.specs.declared.request.Request.{Request}
 use Rattle.update_sink.specs.Runs.{IsRun, IsStoppedBy}
@@ -64,6 +66,12 @@ pub rooted-same : (l : Layout) (old new : Writer) (e : ExprTree) (r : Result Roo
     → IfErr r (λ _. Begins (cleared old) new (root_course l e)) → new.me ≡ old.me
 rooted-same l old new e (Ok run) ok err = ap (λ (w : Writer). w.me) ok.rest ∙ ok.carried.same
 rooted-same l old new e (Err f) ok err = err.1.same
+
+-- one run of a daemon's expression
+pub once-same : (old new : Writer) (p : Course Once) (r : Result Once Memory)
+    → IfOk r (IsFollowed old new p) → IfErr r (λ _. Begins (cleared old) new p) → new.me ≡ old.me
+once-same old new p (Ok run) ok err = ap (λ (w : Writer). w.me) ok.rest ∙ ok.carried.same
+once-same old new p (Err f) ok err = err.1.same
 
 -- the answer to a request
 pub answered-same : (tells : ℕ → Type 0) (l : Layout) (old new : Writer) (before after : BoardState)

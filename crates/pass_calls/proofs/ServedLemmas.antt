@@ -1,10 +1,13 @@
 -- Connections that are served one after another.
-use Rattle.std.proofs.Common.{ℕ, ◌≡◌, ◌+◌, List, [], ◌∷◌, ◌++◌, length, refl, sym, ap, ◌∙◌, subst}
+use Rattle.std.proofs.Common.{ℕ, ◌≡◌, ◌≤◌, ◌+◌, List, [], ◌∷◌, ◌++◌, length, refl, sym, ap, ◌∙◌, subst}
 use Rattle.std.proofs.Common.{arith, inl, inr, append_assoc, append-nil, length-append}
-use Rattle.std.specs.Prelude.{Option, Some, None}
+use Rattle.std.specs.Prelude.{nat_lt, IfSome, Option, Some, None}
+use Rattle.std.proofs.lemmas.Bool.{cases_lt, le-ltb, lt-ltb}
+use Rattle.io_edge.specs.Edge.{Rose}
 use Rattle.server_edge.specs.Doors.{GaveFirst, Row, TakesBack}
-use Rattle.pass_calls.specs.Serving.{AreServed, EndsAll, EndsNext, IsEven, IsServed, IsServedRow}
-use Rattle.pass_calls.specs.Serving.{Rises, ServesOne, Serving}
+use Rattle.pass_calls.specs.Serving.{AreServed, EndsAll, EndsNext, GaveOne, IsEven, IsServed}
+use Rattle.pass_calls.specs.Serving.{IsServedRow}
+use Rattle.pass_calls.specs.Serving.{HasFailed, Rises, ServesOne, Serving}
 use Rattle.server_edge.specs.declared.door.Back.{Back}
 use Rattle.pass_calls.specs.declared.doors.DoorEnd.{DoorEnd}
 use Rattle.pass_calls.specs.declared.doors.DoorEnd.TheVariants.{Closed, NoListen, Failed}
@@ -70,6 +73,15 @@ served-one did w v input output (Some r) mid new gave one =
       },
     )
 
+-- a door that gave one, which came back, gave one more
+pub gave-one : {W I O N : Type 0} (did : Serving W I O N) (w v : W) (input : I) (output : O)
+    (old mid new : Option (Row I O N))
+    → GaveFirst old mid input output → ServesOne did w v (input, output) mid new → GaveOne old new
+gave-one did w v input output None mid new gave one = tt
+gave-one did w v input output (Some r) mid new gave one =
+    let s = subst (λ m. ServesOne did w v (input, output) m new) gave.2 one in
+    subst (λ n. IfSome n (λ x. x.given ≡ r.given + 1)) (sym s.3) refl
+
 -- as many came back as were given
 served-many : {W I O N : Type 0} (did : Serving W I O N) (w : W) (given : List (I × O))
     (backs : List (Back I O N)) (v : W) → AreServed did w given backs v → length backs ≡ length
@@ -130,7 +142,43 @@ rises-on a b c x y z f s = record {
       | inl some ↦ inl (omega (arith, some, more))
     ]
   ];
+  still = λ e.
+      let first : b ≡ a = omega (arith, e, f.on, s.on) in
+      let next : c ≡ b = omega (arith, e, f.on, s.on) in s.still next ∙ f.still first;
 }
+
+-- a count that stays
+pub rises-still : (n old new : ℕ) → new ≡ old → Rises n n old new
+rises-still n old new same = record {
+  on = omega arith;
+  stays = omega (arith, same);
+  rose = inl (omega (arith, same));
+  still = λ e. same;
+}
+
+-- one failure more
+pub rises-once : (n old new : ℕ) → old ≤ new → Rose old new → Rises n (n + 1) old new
+rises-once n old new stays rose = record {
+  on = omega arith;
+  stays = stays;
+  rose = elim rose [
+    | inr full ↦ inr full
+    | inl more ↦ inl (omega (arith, more))
+  ];
+  still = λ e. absurd (omega (arith, e));
+}
+
+-- whether a door failed, by how many failures were counted
+pub failed-of : (failures old new : ℕ) → Rises 0 failures old new
+    → HasFailed (nat_lt 0 failures) old new
+failed-of failures old new rises = elim (cases_lt 0 failures) [
+  | inl some ↦ subst (λ b. HasFailed b old new) (sym (lt-ltb 0 failures some)) (elim rises.rose [
+    | inr full ↦ inr full
+    | inl more ↦ inl (omega (arith, more, some))
+  ])
+  | inr none ↦ subst (λ b. HasFailed b old new) (sym (le-ltb 0 failures none))
+      (rises.still (omega (arith, none)))
+]
 
 -- why the next one isn't served is why no more are
 pub ends-all : {I O N : Type 0} (row : Option (Row I O N)) (failures old new : ℕ)

@@ -1,6 +1,6 @@
 -- How the connections of a door are served, one after another (own).
-use Rattle.std.specs.Prelude.{ℕ, ◌≡◌, ◌≤◌, ◌<◌, ◌+◌, ◌^◌, ◌⊎◌, List, [], ◌∷◌, ◌++◌, length, Option}
-use Rattle.std.specs.Prelude.{Some, None}
+use Rattle.std.specs.Prelude.{ℕ, ◌≡◌, ◌≤◌, ◌<◌, ◌+◌, ◌^◌, ◌⊎◌, List, [], ◌∷◌, ◌++◌, length, Option, Bool, true, false}
+use Rattle.std.specs.Prelude.{Some, None, IfSome}
 use Rattle.io_edge.specs.Edge.{Rose}
 use Rattle.exchange_rules.specs.Following.{Writer}
 use Rattle.exchange_rules.specs.Rows.{Layout}
@@ -68,11 +68,18 @@ ServesOne {W} {I} {O} {N} did w v c (Some old) new =
     × (new ≡ Some (record { given = old.given; left = old.left; came = came }))
     × (HasRoom old → came ≡ old.came ++ b ∷ [])
 
--- failures of a door were counted, and its own count rose by as many at least, or stands at its end
+-- failures of a door were counted, and its own count rose by as many at least, or stands at its end;
+-- where none was, it stays
 pub record Rises (before after old new : ℕ) : Type 0 where
   pub on : before ≤ after
   pub stays : old ≤ new
   pub rose : (old + after ≤ new + before) ⊎ (2 ^ 64 ≤ new + 1)
+  pub still : after ≡ before → new ≡ old
+
+-- whether a door failed: its count rose, or else it stays
+abbrev pub HasFailed : Bool → ℕ → ℕ → Type 0
+HasFailed true old new = Rose old new
+HasFailed false old new = new ≡ old
 
 -- whether a door goes on, by how often it has failed
 abbrev pub EndsNext : {I O N : Type 0} → Option (Row I O N) → ℕ → Option DoorEnd → Type 0
@@ -86,6 +93,15 @@ abbrev pub EndsAll : {I O N : Type 0} → Option (Row I O N) → ℕ → ℕ →
 EndsAll row old new Closed = IsEmptied row
 EndsAll row old new NoListen = ⊥
 EndsAll row old new Failed = RoseBy 100 old new
+
+-- a door gave one connection more, where it tells them
+abbrev pub GaveOne : {I O N : Type 0} → Option (Row I O N) → Option (Row I O N) → Type 0
+GaveOne None new = Unit {0}
+GaveOne (Some r) new = IfSome new (λ n. n.given ≡ r.given + 1)
+
+-- what a call for the next connection did: it failed, and that was counted, or gave one
+abbrev pub HasGoneOn : {I O N : Type 0} → ℕ → ℕ → Option (Row I O N) → Option (Row I O N) → Type 0
+HasGoneOn before after old new = (after ≡ before + 1) ⊎ GaveOne old new
 
 -- a pass as a writer, and the board as its requests see it
 pub record Server : Type 0 where

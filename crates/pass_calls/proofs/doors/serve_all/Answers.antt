@@ -1,7 +1,7 @@
 use Rattle.std.proofs.Common.{◌∙◌, arith, refl, inl}
 use Rattle.running_site.specs.Sites.{layout_at}
 use Rattle.pass_calls.specs.Serving.{served_by}
-use Rattle.pass_calls.proofs.ServedLemmas.{ends-all, rises-on, served-more, served-none}
+use Rattle.pass_calls.proofs.ServedLemmas.{ends-all, failed-of, rises-on, rises-still, served-more, served-none}
 use Rattle.pass_calls.proofs.doors.serve_all.Goals as goal
 
 pub loop-init : goal.loop-init
@@ -12,7 +12,7 @@ loop-init g c = record {
   served = served-none (served_by (g.C.Clock.tells c.args.clock.now) (layout_at c.args.site.now)
       g.L.In.Source.left g.L.In.Source.faults g.L.Out.Sink.written g.L.Out.Sink.faults) _ _ _ refl;
   few = omega arith;
-  rises = record { on = omega arith; stays = omega arith; rose = inl (omega arith) };
+  rises = rises-still _ _ _ refl;
 }
 
 pub serve_next-requires-clause-own : goal.serve_next-requires-clause-own
@@ -31,6 +31,11 @@ pub returns-in-Some-serve_next-clause-ends : goal.returns-in-Some-serve_next-cla
 returns-in-Some-serve_next-clause-ends g c =
     ends-all _ _ _ _ (rises-on _ _ _ _ _ _ c.loop.invariant.rises c.serve_next.ensures.counts)
     c.in-Some-serve_next.end (rw c.in-Some-serve_next.is at c.serve_next.ensures.ends)
+
+pub returns-in-Some-serve_next-clause-failed : goal.returns-in-Some-serve_next-clause-failed
+returns-in-Some-serve_next-clause-failed g c =
+    failed-of _ _ _
+    (rises-on _ _ _ _ _ _ c.loop.invariant.rises c.serve_next.ensures.counts)
 
 pub returns-in-Some-serve_next-clause-number : goal.returns-in-Some-serve_next-clause-number
 returns-in-Some-serve_next-clause-number g c =

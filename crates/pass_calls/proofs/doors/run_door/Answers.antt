@@ -1,7 +1,7 @@
 use Rattle.running_site.specs.Sites.{layout_at}
 use Rattle.pass_calls.specs.Serving.{served_by}
 use Rattle.pass_calls.proofs.ServedLemmas.{served-none}
-use Rattle.pass_calls.proofs.doors.serve_door.Goals as goal
+use Rattle.pass_calls.proofs.doors.run_door.Goals as goal
 
 pub returns-in-Failed-clause-served : goal.returns-in-Failed-clause-served
 returns-in-Failed-clause-served g c =
