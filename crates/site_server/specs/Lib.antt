@@ -1,0 +1,5 @@
+pub mod Doors
+pub mod Items
+pub mod Rows
+pub mod Ended
+pub mod Standing
