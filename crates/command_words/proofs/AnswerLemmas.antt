@@ -4,16 +4,17 @@ use Rattle.std.proofs.Common.{Option, Some, None, refl, sym, ap, subst, ◌∙�
 use Rattle.std.specs.Prelude.{IsSome, is_some, option_and_then, length, ◌==◌}
 use Rattle.tuple_values.specs.Document.{ByteList}
 use Rattle.command_words.specs.Answering.{Answers}
-use Rattle.command_words.specs.Commands.{script_over, command_of, names_in}
+use Rattle.command_words.specs.Commands.{command_of, names_in, IsRanged}
 use Rattle.command_words.specs.Words.{name_of}
 use Rattle.command_words.specs.Grammar.{IsCommand, IsReadable}
 use Rattle.tuple_values.specs.declared.names.NameShards.{NameShards}
-use Rattle.command_words.specs.Names.{go_together, each_of, behind, names_of, AreFit}
+use Rattle.command_words.specs.Names.{go_together, each_of, behind, names_of, some_of}
+use Rattle.command_words.specs.Names.{some_names_of, AreFit}
 use Rattle.command_words.specs.declared.command.Command.{Command}
-use Rattle.command_words.specs.declared.command.Command.TheVariants.{Script}
 use Rattle.command_words.specs.declared.fault.WordsFault.{WordsFault}
 use Rattle.command_words.specs.declared.fault.WordsFault.TheVariants.{Refused, OutOfMemory}
-use Rattle.command_words.proofs.CommandLemmas.{joined-nil, command_looks, command_none, command_of_fit, names_of_fit}
+use Rattle.command_words.proofs.CommandLemmas.{joined-nil, command_looks, command_none}
+use Rattle.command_words.proofs.CommandLemmas.{names_of_fit, command_of_fit, command_of_ranged}
 use Rattle.command_words.proofs.WordLemmas.{guard_some}
 
 -- words that say something look like it
@@ -42,6 +43,12 @@ pub answers_fit : (words : List ByteList) (result : Result Command WordsFault)
     → Answers (command_of words) result → IfOk result (λ command. AreFit (names_in command))
 answers_fit words (Ok command) a = command_of_fit words command a
 answers_fit words (Err fault) a = tt
+
+-- its settings are ranged
+pub answers_ranged : (words : List ByteList) (result : Result Command WordsFault)
+    → Answers (command_of words) result → IfOk result IsRanged
+answers_ranged words (Ok command) a = command_of_ranged words command a
+answers_ranged words (Err fault) a = tt
 
 -- words that are refused look like no command
 pub answers_refused : (words : List ByteList) (result : Result Command WordsFault)
@@ -88,22 +95,27 @@ pub some_word : (words : List ByteList) → false ≡ (length words == 0) → wo
 some_word [] some e = absurd (cc)
 some_word (word ∷ words) some e = absurd (cc)
 
--- the script over what words name, where there is a word
-pub script_said : (words : List ByteList) (names : List NameShards) → (words ≡ [] → ⊥)
-    → names_of words ≡ Some names
-    → option_and_then script_over (names_of words) ≡ Some (Script names)
-script_said words [] some e = absurd (some (names_there words e))
-script_said words (n ∷ names) some e = ap (option_and_then script_over) e
+-- some collections are what words name, where there is a word
+some_said : (words : List ByteList) (names : List NameShards) → (words ≡ [] → ⊥)
+    → names_of words ≡ Some names → some_names_of words ≡ Some names
+some_said words [] some e = absurd (some (names_there words e))
+some_said words (n ∷ names) some e = ap (option_and_then some_of) e
+
+-- an answer that names what the words do names some, where there is a word
+pub some_answered : (words : List ByteList) (result : Result (List NameShards) WordsFault)
+    → (words ≡ [] → ⊥) → Answers (names_of words) result → Answers (some_names_of words) result
+some_answered words (Ok names) some a = some_said words names some a
+some_answered words (Err Refused) some a = ap (option_and_then some_of) a
+some_answered words (Err OutOfMemory) some a = tt
 
 -- by what they name
-script_by : (words : List ByteList) (o : Option (List NameShards)) → names_of words ≡ o
-    → (words ≡ [] → ⊥) → IsSome o → IsSome (option_and_then script_over (names_of words))
-script_by words None e some there =
+some_by : (words : List ByteList) (o : Option (List NameShards)) → names_of words ≡ o
+    → (words ≡ [] → ⊥) → IsSome o → IsSome (some_names_of words)
+some_by words None e some there =
     let none : IsSome (let o : Option (List NameShards) = None in o) = there in absurd (cc)
-script_by words (Some names) e some there =
-    subst IsSome (sym (script_said words names some e)) refl
+some_by words (Some names) e some there = subst IsSome (sym (some_said words names some e)) refl
 
--- there is a script over what words name, where there is a word
-pub script_there : (words : List ByteList) → (words ≡ [] → ⊥) → IsSome (names_of words)
-    → IsSome (option_and_then script_over (names_of words))
-script_there words some there = script_by words (names_of words) refl some there
+-- words name some collections, where there is a word
+pub some_there : (words : List ByteList) → (words ≡ [] → ⊥) → IsSome (names_of words)
+    → IsSome (some_names_of words)
+some_there words some there = some_by words (names_of words) refl some there

@@ -1,22 +1,26 @@
 -- What words say by their looks is what is read of them.
 use Rattle.std.proofs.Common.{◌≡◌, ◌≢◌, List, [], ◌∷◌, Bool, true, false, if◌then◌else◌}
-use Rattle.std.proofs.Common.{Option, Some, None, refl, ◌∙◌, ap, subst}
-use Rattle.std.specs.Prelude.{nat_le, option_and_then, codes}
+use Rattle.std.proofs.Common.{Option, Some, None, ◌&&◌, length, refl, sym, ◌∙◌, ap, subst}
+use Rattle.std.specs.Prelude.{nat_le, option_map, option_and_then, codes}
 use Rattle.std.specs.Str.{bytes_eq}
-use Rattle.std.specs.List.{AllByRecursion}
+use Rattle.std.specs.List.{AllByRecursion, list_all}
 use Rattle.std.proofs.lemmas.Bool.{and_parts, and_from, leb-true, le-leb, cond-true}
+use Rattle.std.proofs.lemmas.Option.{option_and_then_some}
 use Rattle.std.proofs.lemmas.Slice.Eq.{bytes_eq-Decides}
 use Rattle.tuple_values.specs.Document.{ByteList}
 use Rattle.tuple_values.specs.declared.names.NameShards.{NameShards}
-use Rattle.command_words.specs.Words.{name_of}
+use Rattle.command_words.specs.Words.{is_later, begins_well, name_of}
 use Rattle.command_words.specs.Names.{differ, shards_in, go_together, joined, each_of, behind}
-use Rattle.command_words.specs.Names.{names_of, IsFit, AreFit}
-use Rattle.command_words.specs.Commands.{script_over, command_over, command_of, names_in}
-use Rattle.command_words.specs.Grammar.{AreWords, AreNames, IsCommand, IsReadable}
+use Rattle.command_words.specs.Names.{names_of, some_of, some_names_of, IsFit, AreFit}
+use Rattle.command_words.specs.Settings.{setting_of, settings_of}
+use Rattle.command_words.specs.Commands.{server_of, command_of, names_in, IsRanged}
+use Rattle.command_words.specs.Grammar.{IsWord, AreWords, AreNames, IsCommand, IsReadable}
 use Rattle.command_words.specs.declared.command.Command.{Command}
-use Rattle.command_words.specs.declared.command.Command.TheVariants.{Eval, Script}
+use Rattle.command_words.specs.declared.command.Command.TheVariants.{Eval, Script, Serve}
 use Rattle.command_words.proofs.WordLemmas.{guard_some}
 use Rattle.command_words.proofs.GrammarLemmas.{word_read, word_looks}
+use Rattle.command_words.proofs.SettingLemmas.{IsBehind, begun_apart}
+use Rattle.command_words.proofs.OptionLemmas.{settings_read, settings_looks, options_ranged}
 
 -- what is joined isn't none
 pub joined-nil : (o : Option NameShards) (p : Option (List NameShards)) → joined o p ≡ Some [] → ⊥
@@ -98,73 +102,143 @@ pub names_of_fit : (words : List ByteList) (names : List NameShards)
     → names_of words ≡ Some names → AreFit names
 names_of_fit words names e = fit_together words names (names_looks words names e)
 
--- a script over some names
-script_some : (names : List NameShards) → names ≢ [] → script_over names ≡ Some (Script names)
-script_some [] some = absurd (some refl)
-script_some (n ∷ names) some = refl
+-- some names, of words that name them
+some_read : (words : List ByteList) (names : List NameShards) → AreNames words names → names ≢ []
+    → some_names_of words ≡ Some names
+some_read words [] w some = absurd (some refl)
+some_read words (n ∷ names) w some =
+    ap (option_and_then some_of) (names_read words (n ∷ names) w)
+
+-- names, where there is one
+some_is : (names found : List NameShards) → some_of names ≡ Some found
+    → (names ≡ found) × (found ≢ [])
+some_is [] found e = absurd (cc)
+some_is (n ∷ names) found e = ((cc), (λ none. cc))
+
+-- the words look like the names that are read, of which there is one
+some_looks : (words : List ByteList) (names : List NameShards) → some_names_of words ≡ Some names
+    → AreNames words names × (names ≢ [])
+some_looks words names e =
+    option_and_then_some some_of (names_of words) names e
+    (λ found is some.
+    let same = some_is found names some in
+    (names_looks words names (is ∙ ap Some same.0), same.1))
+
+-- a word that names a collection is for no setting
+word_behind : (word : ByteList) (n : NameShards) → IsWord word n → setting_of word ≡ None
+word_behind word n w =
+    let front = (and_parts (begins_well n.name && list_all is_later n.name)
+    (nat_le (length n.name) 64) w.named).0 in
+    ap setting_of w.printed
+    ∙ begun_apart n.name (61 ∷ w.digits)
+    (and_parts (begins_well n.name) (list_all is_later n.name) front).0
+
+-- no option stands at the front of words that name some collections
+names_behind : (words : List ByteList) (names : List NameShards) → AreWords words names
+    → names ≢ [] → IsBehind words
+names_behind [] names w some = tt
+names_behind (word ∷ words) [] w some = absurd w
+names_behind (word ∷ words) (n ∷ names) w some = word_behind word n w.0
 
 -- the command that the words look like is read
 pub command_read : (words : List ByteList) (command : Command) → IsCommand words command
     → command_of words ≡ Some command
 command_read words (Eval names) w =
-    ap command_of w.1
-    ∙ ap (option_and_then (command_over (codes "eval"))) (names_read w.0 names w.2)
+    ap command_of w.1 ∙ ap (option_map Eval) (names_read w.0 names w.2)
 command_read words (Script names) w =
-    ap command_of w.1
-    ∙ ap (option_and_then (command_over (codes "script"))) (names_read w.0 names w.2)
-    ∙ script_some names w.3
+    ap command_of w.1 ∙ ap (option_map Script) (some_read w.0 names w.2 w.3)
+command_read words (Serve settings names) w =
+    ap command_of w.2
+    ∙ ap (option_and_then server_of)
+    (settings_read w.0 w.1 settings w.3 (names_behind w.1 names w.4.each w.5))
+    ∙ ap (option_map (Serve settings)) (some_read w.1 names w.4 w.5)
 
--- what a script is over
-script_looks : (names : List NameShards) (command : Command) → script_over names ≡ Some command
-    → (names ≢ []) × (Script names ≡ command)
-script_looks [] command e = absurd (cc)
-script_looks (n ∷ names) command e = ((λ none. cc), (cc))
+-- what a command is made of
+map_some : (f : List NameShards → Command) (o : Option (List NameShards)) (command : Command)
+    → option_map f o ≡ Some command
+    → (names : List NameShards) × (o ≡ Some names) × (f names ≡ command)
+map_some f None command e = absurd (cc)
+map_some f (Some names) command e = (names, refl, (cc))
 
--- the words of the command that their first one chooses
-chosen_looks : (word : ByteList) (words : List ByteList) (names : List NameShards)
-    (command : Command) → AreNames words names → (test : Bool)
-    → bytes_eq word (codes "eval") ≡ test
-    → (if test then Some (Eval names) else if bytes_eq word (codes "script")
-    then script_over names else None) ≡ Some command
+-- the words of an evaluation
+eval_looks : (words : List ByteList) (command : Command)
+    → option_map Eval (names_of words) ≡ Some command → IsCommand (codes "eval" ∷ words) command
+eval_looks words command e =
+    let made = map_some Eval (names_of words) command e in
+    subst (λ (c : Command). IsCommand (codes "eval" ∷ words) c) made.2
+    (words, refl, names_looks words made.0 made.1)
+
+-- the words of a script
+script_looks : (words : List ByteList) (command : Command)
+    → option_map Script (some_names_of words) ≡ Some command
+    → IsCommand (codes "script" ∷ words) command
+script_looks words command e =
+    let made = map_some Script (some_names_of words) command e in
+    let some = some_looks words made.0 made.1 in
+    subst (λ (c : Command). IsCommand (codes "script" ∷ words) c) made.2
+    (words, refl, some.0, some.1)
+
+-- the words of a server
+serve_looks : (words : List ByteList) (command : Command)
+    → option_and_then server_of (settings_of words) ≡ Some command
+    → IsCommand (codes "serve" ∷ words) command
+serve_looks words command e =
+    option_and_then_some server_of (settings_of words) command e
+    (λ read is server.
+    let made = map_some (Serve read.0) (some_names_of read.1) command server in
+    let some = some_looks read.1 made.0 made.1 in
+    let look = settings_looks words read.0 read.1 is in
+    subst (λ (c : Command). IsCommand (codes "serve" ∷ words) c) made.2
+    (look.0, read.1, ap (λ l. codes "serve" ∷ l) look.1, look.2, some.0, some.1))
+
+-- words of one command, or of another where the first word isn't this one
+chosen_looks : (word text : ByteList) (words : List ByteList) (this other : Option Command)
+    (command : Command) (test : Bool) → bytes_eq word text ≡ test
+    → (if test then this else other) ≡ Some command
+    → (this ≡ Some command → IsCommand (text ∷ words) command)
+    → (other ≡ Some command → IsCommand (word ∷ words) command)
     → IsCommand (word ∷ words) command
-chosen_looks word words names command looks true is e =
-    let same : Eval names ≡ command = cc in
-    let first = (bytes_eq-Decides word (codes "eval")).0 is in
-    subst (λ (c : Command). IsCommand (word ∷ words) c) same
-    (words, ap (λ w. w ∷ words) first, looks)
-chosen_looks word words names command looks false is e =
-    let given = guard_some (bytes_eq word (codes "script")) (script_over names) command e in
-    let first = (bytes_eq-Decides word (codes "script")).0 given.0 in
-    let over = script_looks names command given.1 in
-    subst (λ (c : Command). IsCommand (word ∷ words) c) over.1
-    (words, ap (λ w. w ∷ words) first, looks, over.0)
-
--- the words of the command that is read, by what is read of the names
-over_looks : (word : ByteList) (words : List ByteList) (o : Option (List NameShards))
-    (command : Command) → names_of words ≡ o
-    → option_and_then (command_over word) o ≡ Some command → IsCommand (word ∷ words) command
-over_looks word words None command is e = absurd (cc)
-over_looks word words (Some names) command is e =
-    chosen_looks word words names command (names_looks words names is)
-    (bytes_eq word (codes "eval")) refl e
+chosen_looks word text words this other command true is e first others =
+    subst (λ (w : ByteList). IsCommand (w ∷ words) command)
+    (sym ((bytes_eq-Decides word text).0 is)) (first e)
+chosen_looks word text words this other command false is e first others = others e
 
 -- the words look like the command that is read
 pub command_looks : (words : List ByteList) (command : Command)
     → command_of words ≡ Some command → IsCommand words command
 command_looks [] command e = absurd (cc)
 command_looks (word ∷ words) command e =
-    over_looks word words (names_of words) command refl e
+    chosen_looks word (codes "eval") words (option_map Eval (names_of words)) _ command
+    (bytes_eq word (codes "eval")) refl e (eval_looks words command)
+    (λ f. chosen_looks word (codes "script") words (option_map Script (some_names_of words)) _
+    command (bytes_eq word (codes "script")) refl f (script_looks words command)
+    (λ g. chosen_looks word (codes "serve") words (option_and_then server_of (settings_of words))
+    None command (bytes_eq word (codes "serve")) refl g (serve_looks words command)
+    (λ h. absurd (cc))))
 
 -- the collections of a command that the words look like
 looks_fit : (words : List ByteList) (command : Command) → IsCommand words command
     → AreFit (names_in command)
 looks_fit words (Eval names) w = fit_together w.0 names w.2
 looks_fit words (Script names) w = fit_together w.0 names w.2
+looks_fit words (Serve settings names) w = fit_together w.1 names w.4
 
 -- the collections of a command may be named together
 pub command_of_fit : (words : List ByteList) (command : Command)
     → command_of words ≡ Some command → AreFit (names_in command)
 command_of_fit words command e = looks_fit words command (command_looks words command e)
+
+-- the settings of a command that the words look like
+looks_ranged : (words : List ByteList) (command : Command) → IsCommand words command
+    → IsRanged command
+looks_ranged words (Eval names) w = tt
+looks_ranged words (Script names) w = tt
+looks_ranged words (Serve settings names) w = options_ranged w.0 settings w.3
+
+-- the settings of a command are ranged
+pub command_of_ranged : (words : List ByteList) (command : Command)
+    → command_of words ≡ Some command → IsRanged command
+command_of_ranged words command e = looks_ranged words command (command_looks words command e)
 
 -- words that say nothing look like no command
 pub command_none : (words : List ByteList) → command_of words ≡ None → IsReadable words → ⊥

@@ -1,7 +1,7 @@
 -- What a word names by its looks is what is read of it.
 use Rattle.std.proofs.Common.{◌≡◌, ℕ, ◌+◌, ◌<◌, ◌≤◌, [], ◌∷◌, ◌++◌, length, take, drop}
 use Rattle.std.proofs.Common.{get_or, Bool, true, false, not, ◌&&◌, ◌==◌, if◌then◌else◌, Some, None}
-use Rattle.std.proofs.Common.{refl, sym, ◌∙◌, ap, arith}
+use Rattle.std.proofs.Common.{refl, sym, ◌∙◌, ap, arith, rules}
 use Rattle.std.specs.Prelude.{nat_lt, nat_le, option_and_then}
 use Rattle.std.specs.Char.{is_ascii_digit}
 use Rattle.std.specs.List.{list_all, position_or_len, before_first, after_first}
@@ -13,10 +13,11 @@ use Rattle.std.proofs.lemmas.List.Sums.{split_at_first, passes_at_first}
 use Rattle.std.proofs.Math.Seq.{take-append_seam, drop-append-add}
 use Rattle.tuple_values.specs.Document.{ByteList}
 use Rattle.tuple_values.specs.declared.names.NameShards.{NameShards}
-use Rattle.command_words.specs.Words.{is_later, begins_well, is_name, in_range, shards_of}
+use Rattle.command_words.specs.Words.{is_later, begins_well, is_name, in_range, is_number}
+use Rattle.command_words.specs.Words.{number_of, shards_of}
 use Rattle.command_words.specs.Words.{collection, named, is_equals, name_of}
 use Rattle.command_words.specs.Grammar.{IsWord}
-use Rattle.command_words.proofs.WordLemmas.{guard_some, named_some, name_of_fit}
+use Rattle.command_words.proofs.WordLemmas.{guard_some, named_some, name_of_fit, number_is}
 
 -- a byte of a name is no equals sign
 later_apart : (b : ℕ) (test : Bool) → (b == 61) ≡ test → is_later b ≡ true → (b == 61) ≡ false
@@ -37,10 +38,26 @@ name_end (b ∷ name) digits all =
     ∙ omega (arith, more)
 
 -- a number in its range
-in_range_some : (n : ℕ) → 1 ≤ n → n ≤ 8 → in_range n ≡ Some n
-in_range_some n low high =
-    cond-true (nat_le 1 n && nat_le n 8) (Some n) None
-    (and_from (nat_le 1 n) (nat_le n 8) (le-leb 1 n low) (le-leb n 8 high))
+in_range_some : (least most n : ℕ) → least ≤ n → n ≤ most → in_range least most n ≡ Some n
+in_range_some least most n low high =
+    cond-true (nat_le least n && nat_le n most) (Some n) None
+    (and_from (nat_le least n) (nat_le n most) (le-leb least n low) (le-leb n most high))
+
+-- digits that write one at least are there
+digits_there : (digits : ByteList) → list_all is_ascii_digit digits ≡ true
+    → 1 ≤ digits_value 10 digits → is_number digits ≡ true
+digits_there [] all low = absurd (omega (arith, low))
+digits_there (d ∷ digits) all low =
+    and_from (not (length (d ∷ digits) == 0)) (list_all is_ascii_digit (d ∷ digits))
+    (search rules) all
+
+-- digits write the number that is read
+number_read : (least most n : ℕ) (digits : ByteList) → is_number digits ≡ true
+    → digits_value 10 digits ≡ n → least ≤ n → n ≤ most
+    → number_of least most digits ≡ Some n
+number_read least most n digits are counted low high =
+    cond-true (is_number digits) (in_range least most (digits_value 10 digits)) None are
+    ∙ ap (in_range least most) counted ∙ in_range_some least most n low high
 
 -- a name and digits with an equals sign between them are read so
 parts_read : (name digits : ByteList) (n : ℕ) → is_name name ≡ true
@@ -58,9 +75,8 @@ parts_read name digits n is_a all counted low high =
     ap (λ k. drop (k + 1) word) end ∙ drop-append-add name (61 ∷ digits) 1 in
     let inside : position_or_len is_equals word < length word =
     omega (arith, end, length-append name (61 ∷ digits)) in
-    let count : shards_of digits ≡ Some n =
-    cond-true (list_all is_ascii_digit digits) (in_range (digits_value 10 digits)) None all
-    ∙ ap in_range counted ∙ in_range_some n low high in
+    let some : 1 ≤ digits_value 10 digits = omega (arith, counted) in
+    let count = number_read 1 8 n digits (digits_there digits all some) counted low high in
     cond-true (nat_lt (position_or_len is_equals word) (length word))
     (option_and_then (named (before_first is_equals word)) (shards_of (after_first is_equals word)))
     None (lt-ltb (position_or_len is_equals word) (length word) inside)
@@ -84,23 +100,17 @@ word_looks word n e =
     guard_some (nat_lt (position_or_len is_equals word) (length word))
     (option_and_then (named name) (shards_of digits)) n e in
     let parts = named_some name (shards_of digits) n split.1 in
-    let counted =
-    guard_some (list_all is_ascii_digit digits) (in_range (digits_value 10 digits)) n.shards parts.0
-    in
-    let range =
-    guard_some (nat_le 1 (digits_value 10 digits) && nat_le (digits_value 10 digits) 8)
-    (Some (digits_value 10 digits)) n.shards counted.1 in
+    let number = number_is 1 8 digits n.shards parts.0 in
     let inside = ltb-true (position_or_len is_equals word) (length word) split.0 in
     let sign : get_or word (position_or_len is_equals word) 0 ≡ 61 =
     eqb-true (get_or word (position_or_len is_equals word) 0) 61
     (passes_at_first is_equals word 0 inside) in
-    let same : digits_value 10 digits ≡ n.shards = let found = range.1 in cc in
     record {
       digits = digits;
       printed = split_at_first is_equals word 0 inside
           ∙ ap (λ b. name ++ (b ∷ digits)) sign ∙ ap (λ l. l ++ (61 ∷ digits)) (sym parts.2);
       named = ap is_name parts.2 ∙ parts.1;
-      written = counted.0;
-      counted = same;
+      written = number.0;
+      counted = number.1;
       fit = name_of_fit word n e;
     }

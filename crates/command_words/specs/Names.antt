@@ -1,6 +1,7 @@
 -- Collections that are named by a list of words NAME=SHARDS (own).
 use Rattle.std.specs.Prelude.{◌≡◌, ℕ, ◌≤◌, nat_le, List, [], ◌∷◌, ◌++◌, Bool, true, false, not}
-use Rattle.std.specs.Prelude.{◌&&◌, ◌||◌, Option, Some, None, sum_by, bytes_eq, if◌then◌else◌}
+use Rattle.std.specs.Prelude.{◌&&◌, ◌||◌, Option, Some, None, option_and_then, sum_by, bytes_eq}
+use Rattle.std.specs.Prelude.{if◌then◌else◌}
 use Rattle.std.specs.List.{AllByRecursion}
 use Rattle.tuple_values.specs.Document.{ByteList}
 use Rattle.tuple_values.specs.declared.names.NameShards.{NameShards}
@@ -53,6 +54,15 @@ behind before (Some names) = if go_together (before ++ names) then Some (before 
 -- the collections that the words name, where each names one and they go together
 abbrev pub names_of : List ByteList → Option (List NameShards)
 names_of words = behind [] (each_of words)
+
+-- collections, where there is one at least
+abbrev pub some_of : List NameShards → Option (List NameShards)
+some_of [] = None
+some_of (n ∷ names) = Some (n ∷ names)
+
+-- the collections that the words name, where there is one at least
+abbrev pub some_names_of : List ByteList → Option (List NameShards)
+some_names_of words = option_and_then some_of (names_of words)
 
 -- a collection may have so many shards
 abbrev pub IsFit : NameShards → Type 0

@@ -1,5 +1,5 @@
--- What a word NAME=SHARDS says (own).
-use Rattle.std.specs.Prelude.{ℕ, nat_le, nat_lt, [], ◌∷◌, length, Bool, false}
+-- What a word NAME=SHARDS says, and a word of digits (own).
+use Rattle.std.specs.Prelude.{ℕ, nat_le, nat_lt, [], ◌∷◌, length, Bool, false, not}
 use Rattle.std.specs.Prelude.{◌&&◌, ◌||◌, ◌==◌, Option, Some, None, option_and_then}
 use Rattle.std.specs.Prelude.{if◌then◌else◌}
 use Rattle.std.specs.Char.{is_ascii_alphabetic, is_ascii_alphanumeric, is_ascii_digit}
@@ -25,13 +25,22 @@ begins_well (b ∷ bytes) = is_first b
 abbrev pub is_name : ByteList → Bool
 is_name name = begins_well name && list_all is_later name && nat_le (length name) 64
 
--- the number, where a collection may have so many shards
-abbrev pub in_range : ℕ → Option ℕ
-in_range n = if nat_le 1 n && nat_le n 8 then Some n else None
+-- the number, where it is from the least to the most
+abbrev pub in_range : ℕ → ℕ → ℕ → Option ℕ
+in_range least most n = if nat_le least n && nat_le n most then Some n else None
 
--- the number of shards that bytes write in decimal digits, where it is one
+-- bytes are decimal digits, one at least
+abbrev pub is_number : ByteList → Bool
+is_number bytes = not (length bytes == 0) && list_all is_ascii_digit bytes
+
+-- the number that bytes write in decimal digits, where it is one from the least to the most
+abbrev pub number_of : ℕ → ℕ → ByteList → Option ℕ
+number_of least most bytes =
+    if is_number bytes then in_range least most (digits_value 10 bytes) else None
+
+-- the number of shards that bytes write, where a collection may have so many
 abbrev pub shards_of : ByteList → Option ℕ
-shards_of bytes = if list_all is_ascii_digit bytes then in_range (digits_value 10 bytes) else None
+shards_of bytes = number_of 1 8 bytes
 
 -- the collection of this name with so many shards
 abbrev pub collection : ByteList → ℕ → NameShards

@@ -4,8 +4,9 @@
 mod command;
 mod fault;
 mod names;
+mod settings;
 mod word;
 
-pub use command::{Command, read_command, readings_agree};
+pub use command::{Command, Settings, read_command, readings_agree};
 pub use fault::WordsFault;
 pub use names::read_names;

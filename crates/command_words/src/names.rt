@@ -1,7 +1,8 @@
 // The names of collections, one a word.
 ghost use Rattle.std.specs.Prelude.{◌≡◌, IfOk, IsErrOf, IsSome, is_some};
 ghost use Rattle.command_words.specs.Answering.{Answers};
-ghost use Rattle.command_words.specs.Names.{says_name, is_said, each_of, names_of, AreFit};
+ghost use Rattle.command_words.specs.Names.{says_name, is_said, each_of, names_of, some_names_of};
+ghost use Rattle.command_words.specs.Names.{AreFit};
 ghost use Rattle.command_words.specs.Words.{name_of};
 
 use crate::WordsFault;
@@ -79,4 +80,15 @@ pub fn read_names(alloc: Global, words: &[Text]) -> Result<Names, WordsFault>
         return Err(WordsFault::Refused);
     }
     read_each(alloc, words)
+}
+
+/// The collections that words `NAME=SHARDS` name, where there is one at least.
+pub fn read_some_names(alloc: Global, words: &[Text]) -> Result<Names, WordsFault>
+    ensures computed { Answers (some_names_of words.now) result }
+    ensures memory { IsErrOf result WordsFault.OutOfMemory → IsSome (some_names_of words.now) }
+{
+    if words.is_empty() {
+        return Err(WordsFault::Refused);
+    }
+    read_names(alloc, words)
 }

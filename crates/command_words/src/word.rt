@@ -1,9 +1,9 @@
-// One word of a list of names.
+// One word of a list of names, and a word of digits.
 ghost use Rattle.std.specs.Prelude.{◌≡◌, Some, None, MatchOption};
 ghost use Rattle.std.specs.Char.{is_ascii_digit};
 ghost use Rattle.std.specs.List.{list_all};
 ghost use Rattle.command_words.specs.Words.{is_first, is_later, begins_well, is_name, in_range};
-ghost use Rattle.command_words.specs.Words.{shards_of, collection, name_of};
+ghost use Rattle.command_words.specs.Words.{is_number, number_of, shards_of, collection, name_of};
 
 // The most bytes of a name.
 const LONGEST: usize = 64;
@@ -49,28 +49,42 @@ fn are_digits(digits: &str) -> bool
     digits.as_bytes().iter().all(|byte| byte.is_ascii_digit())
 }
 
-// The number of shards that digits write, where it is one.
-fn shards_of(digits: &str) -> Option<u16>
-    ensures { result ≡ shards_of digits.now }
+// Whether these are decimal digits, one at least.
+fn is_number(digits: &str) -> bool
+    ensures { result ≡ is_number digits.now }
 {
-    if !are_digits(digits) {
+    !digits.is_empty() && are_digits(digits)
+}
+
+// The number that digits write, where it is one from the least to the most.
+pub fn number_of(digits: &str, least: u16, most: u16) -> Option<u16>
+    ensures { result ≡ number_of least most digits.now }
+{
+    if !is_number(digits) {
         return None;
     }
     match digits.parse::<u16>() {
-        Ok(shards) => in_range(shards),
+        Ok(number) => in_range(number, least, most),
         Err(_) => None,
     }
 }
 
-// The number, where a collection may have so many shards.
-fn in_range(shards: u16) -> Option<u16>
-    ensures { result ≡ in_range shards }
+// The number, where it is from the least to the most.
+fn in_range(number: u16, least: u16, most: u16) -> Option<u16>
+    ensures { result ≡ in_range least most number }
 {
-    if shards >= 1 && shards <= 8 {
-        Some(shards)
+    if least <= number && number <= most {
+        Some(number)
     } else {
         None
     }
+}
+
+// The number of shards that digits write, where a collection may have so many.
+fn shards_of(digits: &str) -> Option<u16>
+    ensures { result ≡ shards_of digits.now }
+{
+    number_of(digits, 1, 8)
 }
 
 /// The name in a word and its number of shards, which stand round its first equals sign.

@@ -8,11 +8,17 @@ mod of_eval;
 #[cfg(test)]
 mod of_eval_limits;
 #[cfg(test)]
+mod of_loopback;
+#[cfg(test)]
 mod of_pass_calls;
 #[cfg(test)]
 mod of_readme;
 #[cfg(test)]
+mod of_runs;
+#[cfg(test)]
 mod of_scripts;
+#[cfg(test)]
+mod of_serve;
 #[cfg(test)]
 mod of_stream_handler;
 #[cfg(test)]

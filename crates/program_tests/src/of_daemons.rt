@@ -8,6 +8,7 @@ use std::alloc::Global;
 use std::sync::Wait;
 use std::test::Fail;
 use std::thread::Threads;
+use std::time::Clock as SystemClock;
 use tuple_values::{Bytes, Memory, Numbers};
 
 const START: &str =
@@ -114,7 +115,11 @@ fn session(alloc: Global) -> Result<Bytes, Memory> {
 
 // Whether a script over a source, checkpoints and a destination answers the session so, where its
 // bytes come in pieces of at most so many.
-fn runs<R: Threads + Wait + Sync>(rt: &R, alloc: Global, most: usize) -> Result<bool, Memory>
+fn runs<R: Threads + Wait + SystemClock + Sync>(
+    rt: &R,
+    alloc: Global,
+    most: usize,
+) -> Result<bool, Memory>
     requires { 0 < most }
 {
     let mut input = MemorySource::new(session(alloc)?, most, Numbers::new(alloc));

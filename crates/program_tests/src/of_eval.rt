@@ -4,6 +4,7 @@ use std::alloc::Global;
 use std::sync::Wait;
 use std::test::Fail;
 use std::thread::Threads;
+use std::time::Clock as SystemClock;
 use tuple_values::{Bytes, Memory};
 
 pub(crate) const OPENING: &str = "{\"result-set\":{\"docs\":[";
@@ -15,7 +16,7 @@ const EXCEPTION: &str = "{\"EOF\":true,\"EXCEPTION\":\"";
 const EXCEPTION_END: &str = "\",\"RESPONSE_TIME\":0}]}}";
 
 /// Whether an input is answered with these tuples.
-pub(crate) fn gives<R: Threads + Wait + Sync>(
+pub(crate) fn gives<R: Threads + Wait + SystemClock + Sync>(
     rt: &R,
     alloc: Global,
     words: &str,
@@ -36,7 +37,7 @@ pub(crate) fn gives<R: Threads + Wait + Sync>(
 }
 
 /// Whether this is told of an input's fault.
-pub(crate) fn tells<R: Threads + Wait + Sync>(
+pub(crate) fn tells<R: Threads + Wait + SystemClock + Sync>(
     rt: &R,
     alloc: Global,
     words: &str,
@@ -51,7 +52,7 @@ pub(crate) fn tells<R: Threads + Wait + Sync>(
     leaves(rt, alloc, words, input, wanted)
 }
 
-fn is_given<R: Threads + Wait + Sync>(
+fn is_given<R: Threads + Wait + SystemClock + Sync>(
     rt: &R,
     alloc: Global,
     words: &str,
@@ -61,7 +62,7 @@ fn is_given<R: Threads + Wait + Sync>(
     gives(rt, alloc, words, joined(alloc, &[input])?, tuples)
 }
 
-fn is_told<R: Threads + Wait + Sync>(
+fn is_told<R: Threads + Wait + SystemClock + Sync>(
     rt: &R,
     alloc: Global,
     words: &str,

@@ -6,6 +6,7 @@ use std::alloc::Global;
 use std::sync::Wait;
 use std::test::Fail;
 use std::thread::Threads;
+use std::time::Clock as SystemClock;
 use tuple_values::{Bytes, Memory};
 
 // A tuple with so many sorts round it.
@@ -33,7 +34,10 @@ fn merged(alloc: Global, tuples: usize) -> Result<Bytes, Memory> {
     Ok(input)
 }
 
-fn are_levels<R: Threads + Wait + Sync>(rt: &R, alloc: Global) -> Result<bool, Memory> {
+fn are_levels<R: Threads + Wait + SystemClock + Sync>(
+    rt: &R,
+    alloc: Global,
+) -> Result<bool, Memory> {
     Ok(
         gives(rt, alloc, "eval", sorts(alloc, 23)?, "{\"a\":1}")?
             && tells(rt, alloc, "eval", sorts(alloc, 24)?, "TooLarge")?,
@@ -43,7 +47,7 @@ fn are_levels<R: Threads + Wait + Sync>(rt: &R, alloc: Global) -> Result<bool, M
 // How long an answer with 199 tuples of no field is, with a comma behind each.
 const WIDE: usize = OPENING.len() + 3 * 199 + END.len();
 
-fn is_wide<R: Threads + Wait + Sync>(rt: &R, alloc: Global) -> Result<bool, Memory> {
+fn is_wide<R: Threads + Wait + SystemClock + Sync>(rt: &R, alloc: Global) -> Result<bool, Memory> {
     let mut input = source(alloc, merged(alloc, 199)?, None)?;
     let ran = a_run(rt, alloc, "eval", &mut input, None, &NoGate)?;
     Ok(ran.status == 0 && ran.output.bytes().len() == WIDE)
@@ -57,7 +61,7 @@ fn an_expression_has_24_levels_and_200_calls_at_most(rt: HostRuntime) -> Result<
     Ok(())
 }
 
-fn is_bytes_told<R: Threads + Wait + Sync>(
+fn is_bytes_told<R: Threads + Wait + SystemClock + Sync>(
     rt: &R,
     alloc: Global,
     bytes: &[u8],
@@ -99,7 +103,7 @@ const REFUSED: [&str; 8] = [
     "--help",
 ];
 
-fn is_refused<R: Threads + Wait + Sync>(
+fn is_refused<R: Threads + Wait + SystemClock + Sync>(
     rt: &R,
     alloc: Global,
     words: &str,
@@ -120,7 +124,7 @@ fn other_words_are_refused(rt: HostRuntime) -> Result<(), Fail> {
     Ok(())
 }
 
-fn faults<R: Threads + Wait + Sync>(
+fn faults<R: Threads + Wait + SystemClock + Sync>(
     rt: &R,
     alloc: Global,
     failing: Failing,

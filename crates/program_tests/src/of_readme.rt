@@ -6,6 +6,7 @@ use std::alloc::Global;
 use std::sync::Wait;
 use std::test::Fail;
 use std::thread::Threads;
+use std::time::Clock as SystemClock;
 use tuple_values::Memory;
 
 const ROLLUP: &str = "rollup(merge(tuple(k=a,n=1),tuple(k=a,n=2),tuple(k=b,n=5),on=\"k asc\"),\
@@ -47,7 +48,7 @@ fn the_fault_of_the_readme_is_told(rt: HostRuntime) -> Result<(), Fail> {
     Ok(())
 }
 
-fn feeds<R: Threads + Wait + Sync>(rt: &R, alloc: Global) -> Result<bool, Memory> {
+fn feeds<R: Threads + Wait + SystemClock + Sync>(rt: &R, alloc: Global) -> Result<bool, Memory> {
     let wanted = Wanted {
         status: 0,
         output: &[STARTED, UPDATED, FOUND],

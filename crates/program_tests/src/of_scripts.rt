@@ -10,10 +10,11 @@ use std::alloc::Global;
 use std::sync::Wait;
 use std::test::Fail;
 use std::thread::Threads;
+use std::time::Clock as SystemClock;
 use tuple_values::Memory;
 
 // Whether a script over two shards answers these requests so, to the end of its input.
-fn replies<R: Threads + Wait + Sync>(
+fn replies<R: Threads + Wait + SystemClock + Sync>(
     rt: &R,
     alloc: Global,
     requests: &[&str],
@@ -65,7 +66,7 @@ fn a_bad_body_is_told_and_the_script_goes_on(rt: HostRuntime) -> Result<(), Fail
     Ok(())
 }
 
-fn stops<R: Threads + Wait + Sync>(
+fn stops<R: Threads + Wait + SystemClock + Sync>(
     rt: &R,
     alloc: Global,
     request: &str,
@@ -99,7 +100,7 @@ fn a_script_continues_and_closes(rt: HostRuntime) -> Result<(), Fail> {
     Ok(())
 }
 
-fn faults<R: Threads + Wait + Sync>(
+fn faults<R: Threads + Wait + SystemClock + Sync>(
     rt: &R,
     alloc: Global,
     failing: Failing,

@@ -5,6 +5,7 @@ use std::alloc::Global;
 use std::sync::Wait;
 use std::test::Fail;
 use std::thread::Threads;
+use std::time::Clock as SystemClock;
 use tuple_values::Memory;
 
 const PUT_THREE: &str =
@@ -52,7 +53,7 @@ const ONE_PUT: &str =
     "HTTP/1.1 200 OK\r\nContent-Type: application/json\r\nContent-Length: 108\r\n\r\n{\"result-set\":{\"docs\":[{\"batchIndexed\":1,\"batchNumber\":1,\"totalIndexed\":1},{\"EOF\":true,\"RESPONSE_TIME\":0}]}}";
 
 // Whether a script over a source, checkpoints and a destination answers these requests so.
-fn feeds<R: Threads + Wait + Sync>(
+fn feeds<R: Threads + Wait + SystemClock + Sync>(
     rt: &R,
     alloc: Global,
     requests: &[&str],

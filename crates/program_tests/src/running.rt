@@ -1,10 +1,14 @@
 // Runs in memory, and what they are compared with.
 use io_edge::{Gate, MemorySink, MemorySource, NoGate};
+use server_edge::{MemoryDoor, NoClock};
 use std::alloc::Global;
+use std::collections::VecDeque;
 use std::sync::Wait;
 use std::thread::Threads;
-use stream_commands::run_words;
-use tuple_values::{Bytes, Memory, Numbers, Text, Words};
+use std::time::Clock as SystemClock;
+use stream_commands::{DOORS, DoorRow, run_words};
+use stream_handler::SessionEnd;
+use tuple_values::{Bytes, Memory, Numbers, Sequence, Text, Words};
 
 /// What a run left.
 #[derive(Drop)]
@@ -46,7 +50,8 @@ fn add_words(alloc: Global, list: &mut Words, words: &str) -> Result<(), Memory>
     Ok(())
 }
 
-fn words_of(alloc: Global, words: &str) -> Result<Words, Memory> {
+/// Words, with a space between each and the next.
+pub(crate) fn words_of(alloc: Global, words: &str) -> Result<Words, Memory> {
     let mut list = Words::new(alloc);
     add_words(alloc, &mut list, words)?;
     Ok(list)
@@ -99,7 +104,28 @@ fn not_ran(alloc: Global, failing: Option<u64>) -> Result<Ran, Memory> {
     })
 }
 
-fn run<R: Threads + Wait + Sync, G: Gate>(
+/// A door in memory.
+pub(crate) type TestDoor = MemoryDoor<SessionEnd>;
+
+/// A door without a connection.
+pub(crate) fn closed_door(alloc: Global) -> Result<TestDoor, Memory> {
+    let none = VecDeque::new(alloc);
+    MemoryDoor::new(alloc, none, Numbers::new(alloc), Numbers::new(alloc))
+}
+
+/// A row of these doors and of others without a connection behind them.
+pub(crate) fn row_of(
+    alloc: Global,
+    doors: Sequence<TestDoor>,
+) -> Result<DoorRow<TestDoor>, Memory> {
+    let mut doors = doors;
+    for _ in doors.len()..DOORS {
+        doors.push(closed_door(alloc)?)?;
+    }
+    DoorRow::of(doors).ok_or(Memory::OutOfMemory)
+}
+
+fn run<R: Threads + Wait + SystemClock + Sync, G: Gate>(
     rt: &R,
     alloc: Global,
     words: &str,
@@ -108,6 +134,7 @@ fn run<R: Threads + Wait + Sync, G: Gate>(
     gate: &G,
 ) -> Result<(), Memory> {
     let words = words_of(alloc, words)?;
+    let mut row = row_of(alloc, Sequence::new(alloc))?;
     ran.status = run_words(
         rt,
         alloc,
@@ -115,13 +142,15 @@ fn run<R: Threads + Wait + Sync, G: Gate>(
         input,
         &mut ran.output,
         &mut ran.errors,
+        &mut row,
+        &NoClock,
         gate,
     );
     Ok(())
 }
 
 /// What the command of these words leaves; this call of output fails.
-pub(crate) fn a_run<R: Threads + Wait + Sync, G: Gate>(
+pub(crate) fn a_run<R: Threads + Wait + SystemClock + Sync, G: Gate>(
     rt: &R,
     alloc: Global,
     words: &str,
@@ -150,7 +179,7 @@ pub(crate) fn is_so(ran: &Ran, wanted: Wanted) -> bool {
 }
 
 /// Whether a command leaves what is wanted of this input.
-pub(crate) fn leaves<R: Threads + Wait + Sync>(
+pub(crate) fn leaves<R: Threads + Wait + SystemClock + Sync>(
     rt: &R,
     alloc: Global,
     words: &str,
@@ -163,7 +192,7 @@ pub(crate) fn leaves<R: Threads + Wait + Sync>(
 }
 
 /// Whether a script answers these requests so.
-pub(crate) fn answers<R: Threads + Wait + Sync>(
+pub(crate) fn answers<R: Threads + Wait + SystemClock + Sync>(
     rt: &R,
     alloc: Global,
     words: &str,
@@ -174,7 +203,7 @@ pub(crate) fn answers<R: Threads + Wait + Sync>(
 }
 
 /// Whether a command ends with this line, and no output, where this call fails.
-pub(crate) fn fails<R: Threads + Wait + Sync>(
+pub(crate) fn fails<R: Threads + Wait + SystemClock + Sync>(
     rt: &R,
     alloc: Global,
     words: &str,

@@ -7,6 +7,7 @@ use std::sync::Wait;
 use std::sync::atomic::{AtomicBool, Ordering};
 use std::test::Fail;
 use std::thread::Threads;
+use std::time::Clock as SystemClock;
 use tuple_values::Memory;
 
 /// How often the first worker looks for the second one at most.
@@ -39,7 +40,7 @@ impl Gate for Apart {
     }
 }
 
-fn is_answered<R: Threads + Wait + Sync>(
+fn is_answered<R: Threads + Wait + SystemClock + Sync>(
     rt: &R,
     alloc: Global,
     gate: &Apart,

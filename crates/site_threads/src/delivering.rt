@@ -27,8 +27,8 @@ pub const SECOND: &[u8] =
 /// How often the topic runs at most.
 const ROUNDS: u64 = 1_000_000;
 
-// The update of a topic that a checked expression is, if its collections are there.
-fn delivery_of<'a>(names: &Names, checked: &'a Checked) -> Option<Delivery<'a>>
+/// The update of a topic that a checked expression is, if its collections are there.
+pub fn delivery_of<'a>(names: &Names, checked: &'a Checked) -> Option<Delivery<'a>>
     ensures { IfSome result
         (λ d. IsCheckedDelivery d × IsSinkThere names.now (sink_of d)) }
 {

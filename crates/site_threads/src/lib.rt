@@ -7,7 +7,7 @@ mod indexing;
 mod opening;
 mod workers;
 
-pub use delivering::{FIRST, SECOND, deliver_all, deliver_once};
+pub use delivering::{FIRST, SECOND, deliver_all, deliver_once, delivery_of};
 pub use indexing::index_writes;
 pub use opening::{close, open};
 pub use workers::{Task, Worker, WorkerOf};

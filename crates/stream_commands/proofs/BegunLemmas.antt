@@ -6,7 +6,7 @@ use Rattle.io_edge.specs.Edge.{Appends}
 use Rattle.form_request.specs.Streams.{begun}
 use Rattle.form_request.specs.declared.reading.After.{After}
 use Rattle.command_words.specs.declared.command.Command.{Command}
-use Rattle.command_words.specs.declared.command.Command.TheVariants.{Eval, Script}
+use Rattle.command_words.specs.declared.command.Command.TheVariants.{Eval, Script, Serve}
 use Rattle.stream_handler.specs.Sessions.{Came}
 use Rattle.stream_handler.proofs.PassLemmas.{passes_none}
 use Rattle.stream_handler.proofs.WireLemmas.{appends_none}
@@ -85,6 +85,7 @@ nothing_left command None written = tt
 nothing_left None (Some all) written = refl
 nothing_left (Some (Eval names)) (Some all) written = (unread all, refl)
 nothing_left (Some (Script names)) (Some all) written = script_unbegun names (Some all) written
+nothing_left (Some (Serve settings names)) (Some all) written = (refl, refl)
 
 -- an expression was not answered
 pub eval_starved : (names : List NameShards) (had left old new : Option (List ℕ))

@@ -8,3 +8,4 @@ pub mod RoundLemmas
 pub mod ServingLemmas
 pub mod ScriptLemmas
 pub mod LineLemmas
+pub mod ServerLemmas

@@ -6,16 +6,17 @@ use Rattle.tuple_values.specs.Document.{ByteList, Doc}
 use Rattle.tuple_values.specs.declared.names.NameShards.{NameShards}
 use Rattle.io_edge.specs.Edge.{Appends, AppendsPrefix}
 use Rattle.command_words.specs.declared.command.Command.{Command}
-use Rattle.command_words.specs.declared.command.Command.TheVariants.{Eval, Script}
+use Rattle.command_words.specs.declared.command.Command.TheVariants.{Eval, Script, Serve}
 use Rattle.stream_handler.specs.Outcomes.{body_of}
 use Rattle.stream_handler.specs.declared.outcome.Outcome.{Outcome}
 use Rattle.stream_commands.specs.Inputs.{limit, IsInput, IsReadOut}
 use Rattle.stream_commands.specs.Replies.{meaning, reply, reply_of, outcome_of}
-use Rattle.stream_commands.specs.Commands.{IsAnswered, IsRefused, IsBegun, IsBroken, IsCut, IsInPart, IsStarved, IsStopped}
+use Rattle.stream_commands.specs.Commands.{IsAnswered, IsRefused, IsBegun, IsBroken, IsCut, IsInPart}
+use Rattle.stream_commands.specs.Commands.{IsServed, IsShort, IsStarved, IsStopped}
 use Rattle.stream_commands.specs.Evaluations.{ending_of}
-use Rattle.stream_commands.specs.Endings.{EndsFor, WritesFor, Writes}
+use Rattle.stream_commands.specs.Endings.{EndsFor, WritesFor, Writes, status_of}
 use Rattle.stream_commands.specs.declared.ending.Ending.{Ending}
-use Rattle.stream_commands.specs.declared.ending.Ending.TheVariants.{Done, InputFailed, OutputFailed, WordsRefused, Faulty, OutOfMemory, InputCut, MessageRefused}
+use Rattle.stream_commands.specs.declared.ending.Ending.TheVariants.{Done, InputFailed, OutputFailed, DoorsFailed, WordsRefused, Faulty, OutOfMemory, InputCut, MessageRefused}
 use Rattle.form_request.specs.declared.reading.After.TheVariants.{Refusal, Rest}
 use Rattle.stream_commands.proofs.BegunLemmas.{script_read, script_run}
 
@@ -75,6 +76,7 @@ starved_begun : (command : Option Command) (all : List ℕ) (left old new : Opti
 starved_begun None all left old new is = is
 starved_begun (Some (Eval names)) all left old new is = inl is
 starved_begun (Some (Script names)) all left old new is = is
+starved_begun (Some (Serve settings names)) all left old new is = is
 
 -- and where output failed
 part_begun : (command : Option Command) (all : List ℕ) (left old new : Option (List ℕ))
@@ -82,6 +84,15 @@ part_begun : (command : Option Command) (all : List ℕ) (left old new : Option 
 part_begun None all left old new is = absurd is
 part_begun (Some (Eval names)) all left old new is = inr is
 part_begun (Some (Script names)) all left old new is = is.0
+part_begun (Some (Serve settings names)) all left old new is = absurd is
+
+-- and where a door failed
+served_begun : (command : Option Command) (all : List ℕ) (left old new : Option (List ℕ))
+    → IsServed command all left old new → IsBegun command all left old new
+served_begun None all left old new is = absurd is
+served_begun (Some (Eval names)) all left old new is = absurd is
+served_begun (Some (Script names)) all left old new is = absurd is
+served_begun (Some (Serve settings names)) all left old new is = is
 
 -- and where input failed
 broken_begun : (command : Option Command) (all : List ℕ) (left old new : Option (List ℕ))
@@ -89,6 +100,7 @@ broken_begun : (command : Option Command) (all : List ℕ) (left old new : Optio
 broken_begun None all left old new is = absurd is
 broken_begun (Some (Eval names)) all left old new is = inl is
 broken_begun (Some (Script names)) all left old new is = script_read names all left old new is
+broken_begun (Some (Serve settings names)) all left old new is = absurd is
 
 -- the whole of a reply is a first part of it
 whole_begun : (old new : Option (List ℕ)) (bytes : ByteList) → Appends old new bytes
@@ -103,6 +115,7 @@ answered_begun (Some (Eval names)) all left old new is =
     inr (is.1, whole_begun old new (reply names (take limit all)) is.2)
 answered_begun (Some (Script names)) all left old new is =
     script_run names all left (Rest 0 is.0) old new is.1
+answered_begun (Some (Serve settings names)) all left old new is = is
 
 -- so is what is refused
 refused_begun : (command : Option Command) (all : List ℕ) (left old new : Option (List ℕ))
@@ -111,6 +124,7 @@ refused_begun None all left old new is = absurd is
 refused_begun (Some (Eval names)) all left old new is =
     inr (is.1, whole_begun old new (reply names (take limit all)) is.2)
 refused_begun (Some (Script names)) all left old new is = absurd is
+refused_begun (Some (Serve settings names)) all left old new is = absurd is
 
 -- and what ends inside a message, or at one that is refused
 cut_begun : (command : Option Command) (all : List ℕ) (left old new : Option (List ℕ))
@@ -119,6 +133,7 @@ cut_begun None all left old new is = absurd is
 cut_begun (Some (Eval names)) all left old new is = absurd is
 cut_begun (Some (Script names)) all left old new is =
     script_run names all left (Rest is.0 is.1) old new is.3
+cut_begun (Some (Serve settings names)) all left old new is = absurd is
 
 stopped_begun : (command : Option Command) (status : ℕ) (all : List ℕ)
     (left old new : Option (List ℕ)) → IsStopped command status all left old new
@@ -127,6 +142,7 @@ stopped_begun None status all left old new is = absurd is
 stopped_begun (Some (Eval names)) status all left old new is = absurd is
 stopped_begun (Some (Script names)) status all left old new is =
     script_run names all left (Refusal status) old new is
+stopped_begun (Some (Serve settings names)) status all left old new is = absurd is
 
 -- words are refused where there is no command, and then nothing is written
 refused_words : (command : Option Command) (all : List ℕ) (left old new : Option (List ℕ))
@@ -141,6 +157,7 @@ begun_for : (end : Ending) (command : Option Command) (all : List ℕ)
 begun_for Done command all left old new ends w = answered_begun command all left old new w
 begun_for InputFailed command all left old new ends w = broken_begun command all left old new w
 begun_for OutputFailed command all left old new ends w = part_begun command all left old new w
+begun_for DoorsFailed command all left old new ends w = served_begun command all left old new w
 begun_for WordsRefused command all left old new ends w =
     refused_words command all left old new ends w
 begun_for Faulty command all left old new ends w = refused_begun command all left old new w
@@ -157,3 +174,24 @@ pub begun_told : (end : Ending) (command : Option Command) (had left old new : O
 begun_told end command None left old new ends w = tt
 begun_told end command (Some all) left old new ends w =
     begun_for end command all left old new ends w
+
+-- at 5 a script is cut short or stopped
+short_at : (end : Ending) (command : Option Command) (all : List ℕ)
+    (left old new : Option (List ℕ)) → status_of end ≡ 5 → WritesFor end command all left old new
+    → IsShort command all left old new
+short_at Done command all left old new five w = absurd (cc)
+short_at InputFailed command all left old new five w = absurd (cc)
+short_at OutputFailed command all left old new five w = absurd (cc)
+short_at DoorsFailed command all left old new five w = absurd (cc)
+short_at WordsRefused command all left old new five w = absurd (cc)
+short_at Faulty command all left old new five w = absurd (cc)
+short_at OutOfMemory command all left old new five w = absurd (cc)
+short_at InputCut command all left old new five w = inl w
+short_at (MessageRefused status) command all left old new five w = inr (status, w)
+
+pub short_for : (end : Ending) (command : Option Command) (had left old new : Option (List ℕ))
+    → status_of end ≡ 5 → Writes end command had left old new
+    → IfSome had (λ all. IsShort command all left old new)
+short_for end command None left old new five w = tt
+short_for end command (Some all) left old new five w =
+    short_at end command all left old new five w

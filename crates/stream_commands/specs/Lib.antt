@@ -7,3 +7,5 @@ pub mod Scripts
 pub mod Commands
 pub mod Endings
 pub mod Serving
+pub mod DoorRows
+pub mod Servers

@@ -14,6 +14,8 @@ pub enum Ending {
     InputFailed,
     /// Output failed.
     OutputFailed,
+    /// A door failed, and its server has ended.
+    DoorsFailed,
     /// The words are no command.
     WordsRefused,
     /// The expression has a fault, and its reply is written.
@@ -33,7 +35,7 @@ impl Ending {
     {
         match self {
             Ending::Done => 0,
-            Ending::InputFailed | Ending::OutputFailed => 1,
+            Ending::InputFailed | Ending::OutputFailed | Ending::DoorsFailed => 1,
             Ending::WordsRefused => 2,
             Ending::Faulty => 3,
             Ending::OutOfMemory => 4,
@@ -50,6 +52,7 @@ impl Ending {
             Ending::Done | Ending::Faulty => {}
             Ending::InputFailed => say(errors, b"fault: input\n"),
             Ending::OutputFailed => say(errors, b"fault: output\n"),
+            Ending::DoorsFailed => say(errors, b"fault: doors\n"),
             Ending::WordsRefused => say(errors, b"words refused\n"),
             Ending::OutOfMemory => say(errors, b"out of memory\n"),
             Ending::InputCut => say(errors, b"input cut\n"),

@@ -1,5 +1,5 @@
 // Tests of command_words, over lines whose commands were worked out by hand.
-use command_words::{Command, WordsFault, read_command};
+use command_words::{Command, Settings, WordsFault, read_command};
 use std::alloc::Global;
 use tuple_values::{Memory, NameShards, Names, Text, Words};
 
@@ -16,11 +16,27 @@ fn push_names(told: &mut String, word: &str, names: &Names) -> Result<(), Memory
     Ok(())
 }
 
-// A command by its word and its names, each with a colon and its shards; or the fault.
+fn push_settings(told: &mut String, settings: Settings) -> Result<(), Memory> {
+    let Settings {
+        port,
+        workers,
+        runners,
+    } = settings;
+    write!(told, "serve {port} {workers} {runners}").map_err(|_| Memory::OutOfMemory)
+}
+
+fn push_server(told: &mut String, settings: Settings, names: &Names) -> Result<(), Memory> {
+    push_settings(told, settings)?;
+    push_names(told, "", names)
+}
+
+// A command by its word and its names, each with a colon and its shards, those of a server behind
+// its port, workers and runners; or the fault.
 fn push_command(told: &mut String, command: &Result<Command, WordsFault>) -> Result<(), Memory> {
     match command {
         Ok(Command::Eval { names }) => push_names(told, "eval", names),
         Ok(Command::Script { names }) => push_names(told, "script", names),
+        Ok(Command::Serve { settings, names }) => push_server(told, *settings, names),
         Err(WordsFault::Refused) => Ok(told.push_str("refused")?),
         Err(WordsFault::OutOfMemory) => Ok(told.push_str("out of memory")?),
     }
@@ -74,7 +90,43 @@ fn words_say_a_command(rt: HostRuntime) {
     }
 }
 
-const OTHERS: [&str; 29] = [
+const SERVERS: [(&str, &str); 11] = [
+    ("serve c=1", "serve 8983 4 1 c:1"),
+    (
+        "serve --port 9000 --workers 2 --runners 3 c=1 d=2",
+        "serve 9000 2 3 c:1 d:2",
+    ),
+    (
+        "serve --runners 3 --port 9000 --workers 2 c=1 d=2",
+        "serve 9000 2 3 c:1 d:2",
+    ),
+    (
+        "serve --workers 16 --runners 4 c=8 d=8",
+        "serve 8983 16 4 c:8 d:8",
+    ),
+    ("serve --port 0 c=1", "serve 0 4 1 c:1"),
+    ("serve --port 65535 c=1", "serve 65535 4 1 c:1"),
+    ("serve --workers 1 c=1", "serve 8983 1 1 c:1"),
+    ("serve --runners 1 c=1", "serve 8983 4 1 c:1"),
+    (
+        "serve --port 0000000000000000000080 c=1",
+        "serve 80 4 1 c:1",
+    ),
+    (
+        "serve --workers 016 --runners 004 c=01",
+        "serve 8983 16 4 c:1",
+    ),
+    ("serve serve=1", "serve 8983 4 1 serve:1"),
+];
+
+#[test]
+fn words_say_a_server(rt: HostRuntime) {
+    for (line, want) in &SERVERS {
+        assert!(rt; says(rt.alloc(), line, want), "of {line}");
+    }
+}
+
+const OTHERS: [&str; 28] = [
     "eval aaaaaaaaaaaaaaaaaaaaaaaaaaaaaaaaaaaaaaaaaaaaaaaaaaaaaaaaaaaaaaaaa=1",
     "eval a=8 b=8 c=1",
     "eval a=8 b=8 c=8",
@@ -100,7 +152,6 @@ const OTHERS: [&str; 29] = [
     "eval eval",
     "script",
     "Eval",
-    "serve c=1",
     "--help",
     "c=1 eval",
     "",
@@ -109,6 +160,52 @@ const OTHERS: [&str; 29] = [
 #[test]
 fn all_else_is_refused(rt: HostRuntime) {
     for line in &OTHERS {
+        assert!(rt; says(rt.alloc(), line, "refused"), "of {line}");
+    }
+}
+
+const NO_SERVERS: [&str; 36] = [
+    "serve",
+    "serve --port",
+    "serve --port 1",
+    "serve --port 1 --workers",
+    "serve --port c=1",
+    "serve --port --workers 2 c=1",
+    "serve --port 1 --port 1 c=1",
+    "serve --port 1 --workers 2 --port 2 c=1",
+    "serve --workers 2 --workers 2 c=1",
+    "serve --runners 2 --runners 2 c=1",
+    "serve c=1 --port 1",
+    "serve c=1 --port 1 d=1",
+    "serve --port=1 c=1",
+    "serve --host 1 c=1",
+    "serve -port 1 c=1",
+    "serve --Port 1 c=1",
+    "serve --port 1 -- c=1",
+    "serve 1 c=1",
+    "--port 1 serve c=1",
+    "serve --port 65536 c=1",
+    "serve --port 18446744073709551617 c=1",
+    "serve --port  c=1",
+    "serve --port +1 c=1",
+    "serve --port -1 c=1",
+    "serve --port 1x c=1",
+    "serve --port 0x1 c=1",
+    "serve --port one c=1",
+    "serve --workers 0 c=1",
+    "serve --workers 17 c=1",
+    "serve --workers  c=1",
+    "serve --runners 0 c=1",
+    "serve --runners 5 c=1",
+    "serve --runners  c=1",
+    "serve --port 1 c=9",
+    "serve --port 1 c=8 d=8 e=1",
+    "serve c=1 c=1",
+];
+
+#[test]
+fn all_else_of_a_server_is_refused(rt: HostRuntime) {
+    for line in &NO_SERVERS {
         assert!(rt; says(rt.alloc(), line, "refused"), "of {line}");
     }
 }

@@ -1,4 +1,5 @@
-use Rattle.command_words.proofs.AnswerLemmas.{answers_ok, answers_fit, answers_refused, answers_memory}
+use Rattle.command_words.proofs.AnswerLemmas.{answers_ok, answers_fit, answers_ranged}
+use Rattle.command_words.proofs.AnswerLemmas.{answers_refused, answers_memory}
 use Rattle.command_words.proofs.command.read_command.Goals as goal
 
 pub returns-clause-ok : goal.returns-clause-ok
@@ -8,6 +9,10 @@ returns-clause-ok c =
 pub returns-clause-fit : goal.returns-clause-fit
 returns-clause-fit c =
     answers_fit c.args.words.now c.command_in.result c.command_in.ensures.computed
+
+pub returns-clause-ranged : goal.returns-clause-ranged
+returns-clause-ranged c =
+    answers_ranged c.args.words.now c.command_in.result c.command_in.ensures.computed
 
 pub returns-clause-refused : goal.returns-clause-refused
 returns-clause-refused c =
