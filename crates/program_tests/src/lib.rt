@@ -20,6 +20,8 @@ mod of_scripts;
 #[cfg(test)]
 mod of_serve;
 #[cfg(test)]
+mod of_shared_board;
+#[cfg(test)]
 mod of_stream_handler;
 #[cfg(test)]
 mod of_topics;
