@@ -55,7 +55,8 @@ fn is_listed<D: Daemons>(alloc: Global, board: &mut D) -> bool {
 }
 
 fn is_started_and_listed<D: Daemons>(alloc: Global, board: &mut D) -> Result<bool, Fail> {
-    Ok(is_started(alloc, board)? && runs(alloc, board) && is_listed(alloc, board))
+    let listed = is_started(alloc, board)? && runs(alloc, board) && is_listed(alloc, board);
+    Ok(listed && is_next(alloc, board))
 }
 
 // Whether a daemon that isn't there is told so at each change.
@@ -63,6 +64,15 @@ fn is_unknown<D: Daemons>(board: &mut D) -> bool {
     matches!(board.stop("y"), Err(BoardFault::UnknownDaemon))
         && matches!(board.resume("y", 0), Err(BoardFault::UnknownDaemon))
         && matches!(board.kill("y"), Err(BoardFault::UnknownDaemon))
+}
+
+// Whether the one daemon is the next behind none, and there is no other behind it.
+fn is_next<D: Daemons>(alloc: Global, board: &mut D) -> bool {
+    match board.claim_next(0) {
+        Some(claim) => finish(alloc, board, claim),
+        None => return false,
+    }
+    board.claim_next(u64::MAX).is_none()
 }
 
 // Whether the daemon is stopped, isn't due then, runs again, and is taken off the board.
