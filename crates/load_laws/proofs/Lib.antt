@@ -1,0 +1,17 @@
+pub mod Facts
+pub mod CountingLemmas
+pub mod ListLemmas
+pub mod WriteLemmas
+pub mod SlotLemmas
+pub mod LoadLemmas
+pub mod ReachLemmas
+pub mod SourceLemmas
+pub mod SourceTally
+pub mod QueryLemmas
+pub mod SentLemmas
+pub mod DestLemmas
+pub mod DestTally
+pub mod ToldLemmas
+pub mod OwnLemmas
+pub mod EndedLemmas
+pub mod MadeLemmas

@@ -1,0 +1,6 @@
+pub mod DocumentsLemmas
+pub mod TallyLemmas
+pub mod WalkLemmas
+pub mod SummaryLemmas
+pub mod Rows
+pub mod CellLemmas

@@ -1,0 +1,8 @@
+use Rattle.std.proofs.Common.{◌≡◌, ◌++◌}
+use Rattle.load_rules.specs.Documents.{numbers_of}
+use Rattle.load_rules.proofs.DocumentsLemmas.{puts}
+use Rattle.load_rules.proofs.documents.write_own.Given as goal
+
+-- what the numbers so far give is written
+abbrev pub invariant-loop-i : goal.invariant-loop-i
+invariant-loop-i l = l.writes ≡ l.initial.writes ++ puts 0 (numbers_of l.i l.indexer)
