@@ -1,0 +1,17 @@
+pub mod AddLemmas
+pub mod CourseLemmas
+pub mod CutLemmas
+pub mod FinishLemmas
+pub mod GivenLemmas
+pub mod HistoryLemmas
+pub mod IndexLemmas
+pub mod OwnLemmas
+pub mod PutLemmas
+pub mod QueryLemmas
+pub mod ReadLemmas
+pub mod RunLemmas
+pub mod RunningLemmas
+pub mod SendLemmas
+pub mod StepLemmas
+pub mod TextLemmas
+pub mod WorkerLemmas

@@ -1,0 +1,5 @@
+pub mod Topic
+pub mod Sink
+pub mod Puts
+pub mod Queries
+pub mod Workers
