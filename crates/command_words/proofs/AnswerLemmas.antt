@@ -1,9 +1,11 @@
 -- What follows of an answer from its being right.
-use Rattle.std.proofs.Common.{◌≡◌, Bool, true, false, Result, Ok, Err, IfOk, IsErrOf, List, [], ◌∷◌}
+use Rattle.std.proofs.Common.{◌≡◌, ◌≢◌, Bool, true, false, Result, Ok, Err, IfOk, IfErr, IsErrOf}
+use Rattle.std.proofs.Common.{List, [], ◌∷◌}
 use Rattle.std.proofs.Common.{Option, Some, None, refl, sym, ap, subst, ◌∙◌, if◌then◌else◌}
 use Rattle.std.specs.Prelude.{IsSome, is_some, option_and_then, length, ◌==◌}
 use Rattle.tuple_values.specs.Document.{ByteList}
-use Rattle.command_words.specs.Answering.{Answers}
+use Rattle.command_words.specs.Answering.{Answers, IsPlainFault}
+use Rattle.command_words.specs.Program.{HasReason}
 use Rattle.command_words.specs.Commands.{command_of, names_in, IsRanged}
 use Rattle.command_words.specs.Words.{name_of}
 use Rattle.command_words.specs.Grammar.{IsCommand, IsReadable}
@@ -12,7 +14,8 @@ use Rattle.command_words.specs.Names.{go_together, each_of, behind, names_of, so
 use Rattle.command_words.specs.Names.{some_names_of, AreFit}
 use Rattle.command_words.specs.declared.command.Command.{Command}
 use Rattle.command_words.specs.declared.fault.WordsFault.{WordsFault}
-use Rattle.command_words.specs.declared.fault.WordsFault.TheVariants.{Refused, OutOfMemory}
+use Rattle.command_words.specs.declared.fault.WordsFault.TheVariants.{Shown, RefusedBy, Refused}
+use Rattle.command_words.specs.declared.fault.WordsFault.TheVariants.{OutOfMemory}
 use Rattle.command_words.proofs.CommandLemmas.{joined-nil, command_looks, command_none}
 use Rattle.command_words.proofs.CommandLemmas.{names_of_fit, command_of_fit, command_of_ranged}
 use Rattle.command_words.proofs.WordLemmas.{guard_some}
@@ -54,8 +57,37 @@ answers_ranged words (Err fault) a = tt
 pub answers_refused : (words : List ByteList) (result : Result Command WordsFault)
     → Answers (command_of words) result → IsErrOf result Refused → IsReadable words → ⊥
 answers_refused words (Ok command) a is = absurd (cc)
+answers_refused words (Err (Shown text)) a is = absurd (cc)
+answers_refused words (Err (RefusedBy text)) a is = absurd (cc)
 answers_refused words (Err Refused) a is = command_none words a
 answers_refused words (Err OutOfMemory) a is = absurd (cc)
+
+-- nor do words of which something is told
+pub answers_told : (words : List ByteList) (result : Result Command WordsFault)
+    → Answers (command_of words) result
+    → IfErr result (λ fault. fault ≢ OutOfMemory → IsReadable words → ⊥)
+answers_told words (Ok command) a = tt
+answers_told words (Err (Shown text)) a = λ other. command_none words a
+answers_told words (Err (RefusedBy text)) a = λ other. command_none words a
+answers_told words (Err Refused) a = λ other. command_none words a
+answers_told words (Err OutOfMemory) a = λ other. absurd (other refl)
+
+-- what is told of words that say nothing
+pub told_answers : (words : List ByteList) (fault : WordsFault) → command_of words ≡ None
+    → Answers (command_of words) (Err fault)
+told_answers words (Shown text) none = none
+told_answers words (RefusedBy text) none = none
+told_answers words Refused none = none
+told_answers words OutOfMemory none = tt
+
+-- a fault without a text needs no reason
+pub plain_reason : (words : List ByteList) (result : Result Command WordsFault)
+    → IfErr result IsPlainFault → IfErr result (HasReason words)
+plain_reason words (Ok command) plain = tt
+plain_reason words (Err (Shown text)) plain = absurd plain
+plain_reason words (Err (RefusedBy text)) plain = absurd plain
+plain_reason words (Err Refused) plain = tt
+plain_reason words (Err OutOfMemory) plain = tt
 
 -- the words look like a command where memory is wanting
 pub answers_memory : (words : List ByteList) (result : Result Command WordsFault)
@@ -70,6 +102,8 @@ pub names_answered : (words : List ByteList) (result : Result (List NameShards) 
 names_answered words (Ok names) some a =
     let e : names_of words ≡ behind [] (Some names) = ap (behind []) a in
     e ∙ guard_is (go_together names) names (some ∙ ap is_some e)
+names_answered words (Err (Shown text)) some a = ap (behind []) a
+names_answered words (Err (RefusedBy text)) some a = ap (behind []) a
 names_answered words (Err Refused) some a = ap (behind []) a
 names_answered words (Err OutOfMemory) some a = tt
 
@@ -105,6 +139,8 @@ some_said words (n ∷ names) some e = ap (option_and_then some_of) e
 pub some_answered : (words : List ByteList) (result : Result (List NameShards) WordsFault)
     → (words ≡ [] → ⊥) → Answers (names_of words) result → Answers (some_names_of words) result
 some_answered words (Ok names) some a = some_said words names some a
+some_answered words (Err (Shown text)) some a = ap (option_and_then some_of) a
+some_answered words (Err (RefusedBy text)) some a = ap (option_and_then some_of) a
 some_answered words (Err Refused) some a = ap (option_and_then some_of) a
 some_answered words (Err OutOfMemory) some a = tt
 

@@ -1,25 +1,27 @@
 -- What words say by their looks is what is read of them.
-use Rattle.std.proofs.Common.{◌≡◌, ◌≢◌, List, [], ◌∷◌, Bool, true, false, if◌then◌else◌}
+use Rattle.std.proofs.Common.{◌≡◌, ◌≢◌, ℕ, List, [], ◌∷◌, Bool, true, false, if◌then◌else◌, arith}
 use Rattle.std.proofs.Common.{Option, Some, None, ◌&&◌, length, refl, sym, ◌∙◌, ap, subst}
 use Rattle.std.specs.Prelude.{nat_le, option_map, option_and_then, codes}
 use Rattle.std.specs.Str.{bytes_eq}
-use Rattle.std.specs.List.{AllByRecursion, list_all}
-use Rattle.std.proofs.lemmas.Bool.{and_parts, and_from, leb-true, le-leb, cond-true}
+use Rattle.std.specs.List.{AllByRecursion, list_all, before_first}
+use Rattle.std.proofs.lemmas.Bool.{and_parts, and_from, leb-true, le-leb, cond-true, cond-false}
+use Rattle.std.proofs.lemmas.List.{append-nil}
 use Rattle.std.proofs.lemmas.Option.{option_and_then_some}
 use Rattle.std.proofs.lemmas.Slice.Eq.{bytes_eq-Decides}
 use Rattle.tuple_values.specs.Document.{ByteList}
 use Rattle.tuple_values.specs.declared.names.NameShards.{NameShards}
-use Rattle.command_words.specs.Words.{is_later, begins_well, name_of}
+use Rattle.command_words.specs.Words.{is_later, begins_well, is_equals, number_of, name_of}
 use Rattle.command_words.specs.Names.{differ, shards_in, go_together, joined, each_of, behind}
 use Rattle.command_words.specs.Names.{names_of, some_of, some_names_of, IsFit, AreFit}
-use Rattle.command_words.specs.Settings.{setting_of, settings_of}
-use Rattle.command_words.specs.Commands.{server_of, command_of, names_in, IsRanged}
+use Rattle.command_words.specs.Settings.{setting_of, joined_of, settings_of}
+use Rattle.command_words.specs.Commands.{server_of, load_of, command_by, command_of, names_in}
+use Rattle.command_words.specs.Commands.{IsRanged}
 use Rattle.command_words.specs.Grammar.{IsWord, AreWords, AreNames, IsCommand, IsReadable}
 use Rattle.command_words.specs.declared.command.Command.{Command}
-use Rattle.command_words.specs.declared.command.Command.TheVariants.{Eval, Script, Serve}
-use Rattle.command_words.proofs.WordLemmas.{guard_some}
-use Rattle.command_words.proofs.GrammarLemmas.{word_read, word_looks}
-use Rattle.command_words.proofs.SettingLemmas.{IsBehind, begun_apart}
+use Rattle.command_words.specs.declared.command.Command.TheVariants.{Eval, Script, Serve, Load}
+use Rattle.command_words.proofs.WordLemmas.{guard_some, number_is}
+use Rattle.command_words.proofs.GrammarLemmas.{word_read, word_looks, name_before}
+use Rattle.command_words.proofs.SettingLemmas.{IsBehind, before_apart, begun_apart}
 use Rattle.command_words.proofs.OptionLemmas.{settings_read, settings_looks, options_ranged}
 
 -- what is joined isn't none
@@ -125,13 +127,19 @@ some_looks words names e =
     (names_looks words names (is ∙ ap Some same.0), same.1))
 
 -- a word that names a collection is for no setting
-word_behind : (word : ByteList) (n : NameShards) → IsWord word n → setting_of word ≡ None
+word_behind : (word : ByteList) (n : NameShards) → IsWord word n
+    → (joined_of word ≡ None) × (setting_of word ≡ None)
 word_behind word n w =
     let front = (and_parts (begins_well n.name && list_all is_later n.name)
     (nat_le (length n.name) 64) w.named).0 in
-    ap setting_of w.printed
-    ∙ begun_apart n.name (61 ∷ w.digits)
-    (and_parts (begins_well n.name) (list_all is_later n.name) front).0
+    let parts = and_parts (begins_well n.name) (list_all is_later n.name) front in
+    let before : before_first is_equals word ≡ n.name =
+    ap (before_first is_equals) w.printed ∙ name_before n.name w.digits parts.1 in
+    let name_apart = begun_apart n.name [] parts.0 in (
+      before_apart word
+          (ap setting_of before ∙ ap setting_of (sym (append-nil n.name)) ∙ name_apart),
+      ap setting_of w.printed ∙ begun_apart n.name (61 ∷ w.digits) parts.0,
+    )
 
 -- no option stands at the front of words that name some collections
 names_behind : (words : List ByteList) (names : List NameShards) → AreWords words names
@@ -152,13 +160,13 @@ command_read words (Serve settings names) w =
     ∙ ap (option_and_then server_of)
     (settings_read w.0 w.1 settings w.3 (names_behind w.1 names w.4.each w.5))
     ∙ ap (option_map (Serve settings)) (some_read w.1 names w.4 w.5)
+command_read words (Load n) w = ap command_of w.1 ∙ ap (option_map Load) w.2
 
 -- what a command is made of
-map_some : (f : List NameShards → Command) (o : Option (List NameShards)) (command : Command)
-    → option_map f o ≡ Some command
-    → (names : List NameShards) × (o ≡ Some names) × (f names ≡ command)
+map_some : {X : Type 0} (f : X → Command) (o : Option X) (command : Command)
+    → option_map f o ≡ Some command → (x : X) × (o ≡ Some x) × (f x ≡ command)
 map_some f None command e = absurd (cc)
-map_some f (Some names) command e = (names, refl, (cc))
+map_some f (Some x) command e = (x, refl, (cc))
 
 -- the words of an evaluation
 eval_looks : (words : List ByteList) (command : Command)
@@ -191,6 +199,42 @@ serve_looks words command e =
     subst (λ (c : Command). IsCommand (codes "serve" ∷ words) c) made.2
     (look.0, read.1, ap (λ l. codes "serve" ∷ l) look.1, look.2, some.0, some.1))
 
+-- the only word of a load
+load_word : (words : List ByteList) (n : ℕ) → load_of words ≡ Some n
+    → (digits : ByteList) × (words ≡ digits ∷ []) × (number_of 1 200000 digits ≡ Some n)
+load_word [] n e = absurd (cc)
+load_word (digits ∷ []) n e = (digits, refl, e)
+load_word (digits ∷ other ∷ others) n e = absurd (cc)
+
+-- the words of a load
+load_looks : (words : List ByteList) (command : Command)
+    → option_map Load (load_of words) ≡ Some command → IsCommand (codes "load" ∷ words) command
+load_looks words command e =
+    let made = map_some Load (load_of words) command e in
+    let word = load_word words made.0 made.1 in
+    subst (λ (c : Command). IsCommand (codes "load" ∷ words) c) made.2
+    (word.0, ap (λ l. codes "load" ∷ l) word.1, word.2)
+
+-- the test of a word that isn't this text
+text_apart : (word text : ByteList) (test : Bool) → bytes_eq word text ≡ test → word ≢ text
+    → bytes_eq word text ≡ false
+text_apart word text true is other = absurd (other ((bytes_eq-Decides word text).0 is))
+text_apart word text false is other = is
+
+-- a word that is none of the commands'
+pub word_other : (word : ByteList) (words : List ByteList) → word ≢ codes "eval"
+    → word ≢ codes "script" → word ≢ codes "serve" → word ≢ codes "load"
+    → command_by word words ≡ None
+word_other word words eval script serve load =
+    cond-false (bytes_eq word (codes "eval")) (option_map Eval (names_of words)) _
+    (text_apart word (codes "eval") _ refl eval)
+    ∙ cond-false (bytes_eq word (codes "script")) (option_map Script (some_names_of words)) _
+    (text_apart word (codes "script") _ refl script)
+    ∙ cond-false (bytes_eq word (codes "serve")) (option_and_then server_of (settings_of words)) _
+    (text_apart word (codes "serve") _ refl serve)
+    ∙ cond-false (bytes_eq word (codes "load")) (option_map Load (load_of words)) None
+    (text_apart word (codes "load") _ refl load)
+
 -- words of one command, or of another where the first word isn't this one
 chosen_looks : (word text : ByteList) (words : List ByteList) (this other : Option Command)
     (command : Command) (test : Bool) → bytes_eq word text ≡ test
@@ -212,9 +256,10 @@ command_looks (word ∷ words) command e =
     (bytes_eq word (codes "eval")) refl e (eval_looks words command)
     (λ f. chosen_looks word (codes "script") words (option_map Script (some_names_of words)) _
     command (bytes_eq word (codes "script")) refl f (script_looks words command)
-    (λ g. chosen_looks word (codes "serve") words (option_and_then server_of (settings_of words))
-    None command (bytes_eq word (codes "serve")) refl g (serve_looks words command)
-    (λ h. absurd (cc))))
+    (λ g. chosen_looks word (codes "serve") words (option_and_then server_of (settings_of words)) _
+    command (bytes_eq word (codes "serve")) refl g (serve_looks words command)
+    (λ h. chosen_looks word (codes "load") words (option_map Load (load_of words)) None command
+    (bytes_eq word (codes "load")) refl h (load_looks words command) (λ i. absurd (cc)))))
 
 -- the collections of a command that the words look like
 looks_fit : (words : List ByteList) (command : Command) → IsCommand words command
@@ -222,6 +267,7 @@ looks_fit : (words : List ByteList) (command : Command) → IsCommand words comm
 looks_fit words (Eval names) w = fit_together w.0 names w.2
 looks_fit words (Script names) w = fit_together w.0 names w.2
 looks_fit words (Serve settings names) w = fit_together w.1 names w.4
+looks_fit words (Load n) w = record { each = tt; apart = refl; few = omega arith }
 
 -- the collections of a command may be named together
 pub command_of_fit : (words : List ByteList) (command : Command)
@@ -234,6 +280,8 @@ looks_ranged : (words : List ByteList) (command : Command) → IsCommand words c
 looks_ranged words (Eval names) w = tt
 looks_ranged words (Script names) w = tt
 looks_ranged words (Serve settings names) w = options_ranged w.0 settings w.3
+looks_ranged words (Load n) w =
+    let number = number_is 1 200000 w.0 n w.2 in (number.2, number.3)
 
 -- the settings of a command are ranged
 pub command_of_ranged : (words : List ByteList) (command : Command)

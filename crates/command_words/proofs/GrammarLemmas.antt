@@ -59,6 +59,13 @@ number_read least most n digits are counted low high =
     cond-true (is_number digits) (in_range least most (digits_value 10 digits)) None are
     ∙ ap (in_range least most) counted ∙ in_range_some least most n low high
 
+-- what stands before the first equals sign, behind a name
+pub name_before : (name digits : ByteList) → list_all is_later name ≡ true
+    → before_first is_equals (name ++ (61 ∷ digits)) ≡ name
+name_before name digits later =
+    ap (λ k. take k (name ++ (61 ∷ digits))) (name_end name digits later)
+    ∙ take-append_seam name (61 ∷ digits)
+
 -- a name and digits with an equals sign between them are read so
 parts_read : (name digits : ByteList) (n : ℕ) → is_name name ≡ true
     → list_all is_ascii_digit digits ≡ true → digits_value 10 digits ≡ n → 1 ≤ n → n ≤ 8
@@ -69,8 +76,7 @@ parts_read name digits n is_a all counted low high =
     (and_parts (begins_well name && list_all is_later name) (nat_le (length name) 64) is_a).0 in
     let later = (and_parts (begins_well name) (list_all is_later name) front).1 in
     let end = name_end name digits later in
-    let before : before_first is_equals word ≡ name =
-    ap (λ k. take k word) end ∙ take-append_seam name (61 ∷ digits) in
+    let before = name_before name digits later in
     let behind : after_first is_equals word ≡ digits =
     ap (λ k. drop (k + 1) word) end ∙ drop-append-add name (61 ∷ digits) 1 in
     let inside : position_or_len is_equals word < length word =
@@ -84,6 +90,19 @@ parts_read name digits n is_a all counted low high =
     ∙ ap (λ l. option_and_then (named name) (shards_of l)) behind
     ∙ ap (option_and_then (named name)) count
     ∙ cond-true (is_name name) (Some (collection name n)) None is_a
+
+-- a word that has an equals sign is what stands before the first one, and after it
+pub equals_split : (word : ByteList)
+    → nat_lt (position_or_len is_equals word) (length word) ≡ true
+    → word ≡ before_first is_equals word ++ (61 ∷ after_first is_equals word)
+equals_split word some =
+    let digits = after_first is_equals word in
+    let name = before_first is_equals word in
+    let inside = ltb-true (position_or_len is_equals word) (length word) some in
+    let sign : get_or word (position_or_len is_equals word) 0 ≡ 61 =
+    eqb-true (get_or word (position_or_len is_equals word) 0) 61
+    (passes_at_first is_equals word 0 inside) in
+    split_at_first is_equals word 0 inside ∙ ap (λ b. name ++ (b ∷ digits)) sign
 
 -- what the word looks like is read of it
 pub word_read : (word : ByteList) (n : NameShards) → IsWord word n → name_of word ≡ Some n
@@ -101,14 +120,9 @@ word_looks word n e =
     (option_and_then (named name) (shards_of digits)) n e in
     let parts = named_some name (shards_of digits) n split.1 in
     let number = number_is 1 8 digits n.shards parts.0 in
-    let inside = ltb-true (position_or_len is_equals word) (length word) split.0 in
-    let sign : get_or word (position_or_len is_equals word) 0 ≡ 61 =
-    eqb-true (get_or word (position_or_len is_equals word) 0) 61
-    (passes_at_first is_equals word 0 inside) in
     record {
       digits = digits;
-      printed = split_at_first is_equals word 0 inside
-          ∙ ap (λ b. name ++ (b ∷ digits)) sign ∙ ap (λ l. l ++ (61 ∷ digits)) (sym parts.2);
+      printed = equals_split word split.0 ∙ ap (λ l. l ++ (61 ∷ digits)) (sym parts.2);
       named = ap is_name parts.2 ∙ parts.1;
       written = number.0;
       counted = number.1;

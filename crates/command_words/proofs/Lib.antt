@@ -1,7 +1,11 @@
 pub mod AnswerLemmas
 pub mod CommandLemmas
 pub mod GrammarLemmas
+pub mod MakeLemmas
 pub mod NameLemmas
 pub mod OptionLemmas
+pub mod ProgramLemmas
 pub mod SettingLemmas
+pub mod TakesLemmas
+pub mod WalkLemmas
 pub mod WordLemmas

@@ -6,9 +6,11 @@ use Rattle.std.specs.Option.{option_map_or}
 use Rattle.std.proofs.lemmas.Option.{option_and_then_some, some_pair_parts}
 use Rattle.tuple_values.specs.Document.{ByteList}
 use Rattle.command_words.specs.Words.{number_of}
-use Rattle.command_words.specs.Settings.{setting_of, value_of, said_of, with_value, said_with}
+use Rattle.command_words.specs.Settings.{setting_of, joined_of, value_of, said_of, with_value}
+use Rattle.command_words.specs.Settings.{said_with}
 use Rattle.command_words.specs.Settings.{settings_by, settings_behind, settings_of}
-use Rattle.command_words.specs.Grammar.{ServeOption, words_of, ports_in, workers_in, runners_in}
+use Rattle.command_words.specs.Grammar.{Spelling, Apart, Joined, spelled, ServeOption, words_of}
+use Rattle.command_words.specs.Grammar.{ports_in, workers_in, runners_in}
 use Rattle.command_words.specs.Grammar.{PortOption, WorkersOption, RunnersOption}
 use Rattle.command_words.specs.Grammar.{IsSaid, AreOptions}
 use Rattle.command_words.specs.Commands.{AreRanged}
@@ -17,8 +19,10 @@ use Rattle.command_words.specs.declared.settings.Said.{Said}
 use Rattle.command_words.specs.declared.settings.Setting.{Setting}
 use Rattle.command_words.specs.declared.settings.Setting.TheVariants.{Port, Workers, Runners}
 use Rattle.command_words.proofs.WordLemmas.{number_is}
-use Rattle.command_words.proofs.SettingLemmas.{IsBehind, settings-next, settings-end}
-use Rattle.command_words.proofs.SettingLemmas.{said_with_value, said_with_is, word_of, setting_word}
+use Rattle.command_words.proofs.SettingLemmas.{IsBehind, settings-next, settings-joined}
+use Rattle.command_words.proofs.SettingLemmas.{settings-end, said_with_value, said_with_is, word_of}
+use Rattle.command_words.proofs.SettingLemmas.{setting_word, word-setting, word-apart, word-joined}
+use Rattle.command_words.proofs.SettingLemmas.{joined_word}
 
 -- the value is what was said before, and then no option says it; or else one option at most does
 abbrev pub IsSaidOn : Option ℕ → (default least most : ℕ) → List ByteList → ℕ → Type 0
@@ -77,33 +81,59 @@ said_all said settings w =
     ∙ ap (λ n. made settings.port n (unwrap_or said.runners 1)) workers
     ∙ ap (λ n. made settings.port settings.workers n) runners
 
+-- words behind those of an option
+pub spelled-append : (by : Spelling) (name digits : ByteList) (words rest : List ByteList)
+    → spelled by name digits words ++ rest ≡ spelled by name digits (words ++ rest)
+spelled-append Apart name digits words rest = refl
+spelled-append Joined name digits words rest = refl
+
+-- an option is read with what is said behind it
+spelled_read : (by : Spelling) (said more : Said) (setting : Setting) (digits : ByteList)
+    (words : List ByteList) → said_with said setting digits ≡ Some more
+    → settings_behind said (spelled by (word_of setting) digits words) ≡ settings_behind more words
+spelled_read Apart said more setting digits words taken =
+    settings-next said more (word_of setting) digits words setting (word-apart setting)
+    (word-setting setting) taken
+spelled_read Joined said more setting digits words taken =
+    settings-joined said more (word_of setting ++ (61 ∷ digits)) digits words setting
+    (word-joined setting digits) taken
+
+-- the same before the words of other options and the words behind those
+option_read : (by : Spelling) (said more : Said) (setting : Setting) (digits : ByteList)
+    (words rest : List ByteList) → said_with said setting digits ≡ Some more
+    → settings_behind said (spelled by (word_of setting) digits words ++ rest)
+    ≡ settings_behind more (words ++ rest)
+option_read by said more setting digits words rest taken =
+    ap (settings_behind said) (spelled-append by (word_of setting) digits words rest)
+    ∙ spelled_read by said more setting digits (words ++ rest) taken
+
 -- what options say is read of their words
 options_read : (options : List ServeOption) (said : Said) (settings : Settings)
     (rest : List ByteList) → SayOn said options settings → IsBehind rest
     → settings_behind said (words_of options ++ rest) ≡ Some (settings, rest)
 options_read [] said settings rest w none =
     settings-end said rest none ∙ ap (λ s. Some (s, rest)) (said_all said settings w)
-options_read (PortOption digits ∷ options) said settings rest w none =
+options_read (PortOption by digits ∷ options) said settings rest w none =
     let value = settings.port in
     let more = with_value said Port value in
     let once = said_once said.port 8983 0 65535 digits (ports_in options) value w.port in
-    settings-next said more (codes "--port") digits (words_of options ++ rest) Port refl
+    option_read by said more Port digits (words_of options) rest
     (said_with_value said Port digits value once.0 once.1)
     ∙ options_read options more settings rest
     (record { port = once.2; workers = w.workers; runners = w.runners }) none
-options_read (WorkersOption digits ∷ options) said settings rest w none =
+options_read (WorkersOption by digits ∷ options) said settings rest w none =
     let value = settings.workers in
     let more = with_value said Workers value in
     let once = said_once said.workers 4 1 16 digits (workers_in options) value w.workers in
-    settings-next said more (codes "--workers") digits (words_of options ++ rest) Workers refl
+    option_read by said more Workers digits (words_of options) rest
     (said_with_value said Workers digits value once.0 once.1)
     ∙ options_read options more settings rest
     (record { port = w.port; workers = once.2; runners = w.runners }) none
-options_read (RunnersOption digits ∷ options) said settings rest w none =
+options_read (RunnersOption by digits ∷ options) said settings rest w none =
     let value = settings.runners in
     let more = with_value said Runners value in
     let once = said_once said.runners 1 1 4 digits (runners_in options) value w.runners in
-    settings-next said more (codes "--runners") digits (words_of options ++ rest) Runners refl
+    option_read by said more Runners digits (words_of options) rest
     (said_with_value said Runners digits value once.0 once.1)
     ∙ options_read options more settings rest
     (record { port = w.port; workers = w.workers; runners = once.2 }) none
@@ -133,14 +163,15 @@ none_look said words settings rest e =
     }
 
 -- one option more, before words that are options and others behind them
-option_look : (said : Said) (setting : Setting) (digits : ByteList) (words : List ByteList)
-    (settings : Settings) (rest : List ByteList) (value : ℕ) → said_of said setting ≡ None
-    → value_of setting digits ≡ Some value
+option_look : (by : Spelling) (said : Said) (setting : Setting) (digits : ByteList)
+    (words : List ByteList) (settings : Settings) (rest : List ByteList) (value : ℕ)
+    → said_of said setting ≡ None → value_of setting digits ≡ Some value
     → LookOn (with_value said setting value) words settings rest
-    → LookOn said (word_of setting ∷ digits ∷ words) settings rest
-option_look said Port digits words settings rest value none is look = record {
-  options = PortOption digits ∷ look.options;
-  printed = ap (λ l. codes "--port" ∷ digits ∷ l) look.printed;
+    → LookOn said (spelled by (word_of setting) digits words) settings rest
+option_look by said Port digits words settings rest value none is look = record {
+  options = PortOption by digits ∷ look.options;
+  printed = ap (spelled by (codes "--port") digits) look.printed
+      ∙ sym (spelled-append by (codes "--port") digits (words_of look.options) rest);
   say = record {
     port = said_first said.port 8983 0 65535 digits (ports_in look.options) settings.port value
         none is look.say.port;
@@ -148,9 +179,10 @@ option_look said Port digits words settings rest value none is look = record {
     runners = look.say.runners;
   };
 }
-option_look said Workers digits words settings rest value none is look = record {
-  options = WorkersOption digits ∷ look.options;
-  printed = ap (λ l. codes "--workers" ∷ digits ∷ l) look.printed;
+option_look by said Workers digits words settings rest value none is look = record {
+  options = WorkersOption by digits ∷ look.options;
+  printed = ap (spelled by (codes "--workers") digits) look.printed
+      ∙ sym (spelled-append by (codes "--workers") digits (words_of look.options) rest);
   say = record {
     port = look.say.port;
     workers = said_first said.workers 4 1 16 digits (workers_in look.options) settings.workers value
@@ -158,9 +190,10 @@ option_look said Workers digits words settings rest value none is look = record 
     runners = look.say.runners;
   };
 }
-option_look said Runners digits words settings rest value none is look = record {
-  options = RunnersOption digits ∷ look.options;
-  printed = ap (λ l. codes "--runners" ∷ digits ∷ l) look.printed;
+option_look by said Runners digits words settings rest value none is look = record {
+  options = RunnersOption by digits ∷ look.options;
+  printed = ap (spelled by (codes "--runners") digits) look.printed
+      ∙ sym (spelled-append by (codes "--runners") digits (words_of look.options) rest);
   say = record {
     port = look.say.port;
     workers = look.say.workers;
@@ -169,45 +202,82 @@ option_look said Runners digits words settings rest value none is look = record 
   };
 }
 
--- one word, by the setting that it is for
-word_look : (said : Said) (word : ByteList) (settings : Settings) (rest : List ByteList)
-    (o : Option Setting)
-    → ◌≡◌ {A = Option (Settings × List ByteList)}
-    (option_map_or (λ s. None) o (Some (settings_by said, word ∷ []))) (Some (settings, rest))
-    → LookOn said (word ∷ []) settings rest
-word_look said word settings rest None e = none_look said (word ∷ []) settings rest e
-word_look said word settings rest (Some setting) e = absurd (cc)
+-- words that say on are read to look like options
+abbrev Looks : List ByteList → Settings → List ByteList → Type 0
+Looks words settings rest =
+    (more : Said) → settings_behind more words ≡ Some (settings, rest)
+    → LookOn more words settings rest
 
--- two words before others, by the setting that the first is for
-words_look : (said : Said) (word digits : ByteList) (words : List ByteList) (settings : Settings)
-    (rest : List ByteList) (o : Option Setting) → setting_of word ≡ o
-    → ◌≡◌ {A = Option (Settings × List ByteList)}
-    (option_map_or (λ s. option_and_then (λ m. settings_behind m words) (said_with said s digits)) o
-    (Some (settings_by said, word ∷ digits ∷ words))) (Some (settings, rest))
-    → ((more : Said) → settings_behind more words ≡ Some (settings, rest)
-    → LookOn more words settings rest)
-    → LookOn said (word ∷ digits ∷ words) settings rest
-words_look said word digits words settings rest None is e others =
-    none_look said (word ∷ digits ∷ words) settings rest e
-words_look said word digits words settings rest (Some setting) is e others =
+-- the words of an option, before words that say on
+taken_look : (by : Spelling) (said : Said) (setting : Setting) (digits : ByteList)
+    (words : List ByteList) (settings : Settings) (rest : List ByteList)
+    → option_and_then (λ m. settings_behind m words) (said_with said setting digits)
+    ≡ Some (settings, rest) → Looks words settings rest
+    → LookOn said (spelled by (word_of setting) digits words) settings rest
+taken_look by said setting digits words settings rest e others =
     option_and_then_some (λ m. settings_behind m words) (said_with said setting digits)
     (settings, rest) e
     (λ more taken behind.
     let found = said_with_is said setting digits more taken in
     let look =
     others (with_value said setting found.0) (ap (λ m. settings_behind m words) found.3 ∙ behind) in
+    option_look by said setting digits words settings rest found.0 found.1 found.2 look)
+
+-- a word with a value joined, before words that say on
+joined_look : (said : Said) (word : ByteList) (words : List ByteList) (settings : Settings)
+    (rest : List ByteList) (j : Setting × ByteList) → joined_of word ≡ Some j
+    → option_and_then (λ m. settings_behind m words) (said_with said j.0 j.1)
+    ≡ Some (settings, rest) → Looks words settings rest → LookOn said (word ∷ words) settings rest
+joined_look said word words settings rest j is e others =
+    subst (λ (w : ByteList). LookOn said (w ∷ words) settings rest)
+    (sym (joined_word word j.1 j.0 is))
+    (taken_look Joined said j.0 j.1 words settings rest e others)
+
+-- one word, by the settings that it is for
+word_look : (said : Said) (word : ByteList) (settings : Settings) (rest : List ByteList)
+    (j : Option (Setting × ByteList)) (o : Option Setting) → joined_of word ≡ j
+    → ◌≡◌ {A = Option (Settings × List ByteList)}
+    (option_map_or
+    (λ i. option_and_then (λ m. settings_behind m []) (said_with said i.0 i.1)) j
+    (option_map_or (λ s. None) o (Some (settings_by said, word ∷ [])))) (Some (settings, rest))
+    → Looks [] settings rest → LookOn said (word ∷ []) settings rest
+word_look said word settings rest None None is e others =
+    none_look said (word ∷ []) settings rest e
+word_look said word settings rest None (Some setting) is e others = absurd (cc)
+word_look said word settings rest (Some j) o is e others =
+    joined_look said word [] settings rest j is e others
+
+-- two words before others, by the settings that the first is for
+words_look : (said : Said) (word digits : ByteList) (words : List ByteList) (settings : Settings)
+    (rest : List ByteList) (j : Option (Setting × ByteList)) (o : Option Setting)
+    → joined_of word ≡ j → setting_of word ≡ o
+    → ◌≡◌ {A = Option (Settings × List ByteList)}
+    (option_map_or
+    (λ i. option_and_then (λ m. settings_behind m (digits ∷ words)) (said_with said i.0 i.1)) j
+    (option_map_or
+    (λ s. option_and_then (λ m. settings_behind m words) (said_with said s digits)) o
+    (Some (settings_by said, word ∷ digits ∷ words)))) (Some (settings, rest))
+    → Looks (digits ∷ words) settings rest → Looks words settings rest
+    → LookOn said (word ∷ digits ∷ words) settings rest
+words_look said word digits words settings rest None None isj iso e next others =
+    none_look said (word ∷ digits ∷ words) settings rest e
+words_look said word digits words settings rest None (Some setting) isj iso e next others =
     subst (λ (w : ByteList). LookOn said (w ∷ digits ∷ words) settings rest)
-    (sym (setting_word word setting is))
-    (option_look said setting digits words settings rest found.0 found.1 found.2 look))
+    (sym (setting_word word setting iso))
+    (taken_look Apart said setting digits words settings rest e others)
+words_look said word digits words settings rest (Some j) o isj iso e next others =
+    joined_look said word (digits ∷ words) settings rest j isj e next
 
 -- words look like the options that are read of them
 options_look : (words : List ByteList) (said : Said) (settings : Settings) (rest : List ByteList)
     → settings_behind said words ≡ Some (settings, rest) → LookOn said words settings rest
 options_look [] said settings rest e = none_look said [] settings rest e
 options_look (word ∷ []) said settings rest e =
-    word_look said word settings rest (setting_of word) e
+    word_look said word settings rest (joined_of word) (setting_of word) refl e
+    (λ more behind. options_look [] more settings rest behind)
 options_look (word ∷ digits ∷ words) said settings rest e =
-    words_look said word digits words settings rest (setting_of word) refl e
+    words_look said word digits words settings rest (joined_of word) (setting_of word) refl refl e
+    (λ more behind. options_look (digits ∷ words) more settings rest behind)
     (λ more behind. options_look words more settings rest behind)
 
 -- nothing is said

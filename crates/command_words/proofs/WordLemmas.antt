@@ -23,9 +23,9 @@ numeral = numerals_by_value _ (search rules)
 in_range-none : (least most n : ℕ) → most < n → None ≡ in_range least most n
 in_range-none least most n lt = grind (arith, common_steps)
 
--- digits that write no number of 16 bits
-number_large : (least most : ℕ) (bytes : ByteList) → most < 2 ^ 16 → is_number bytes ≡ true
-    → ((0 < length bytes) × (digits_value 10 bytes < 2 ^ 16) → ⊥)
+-- digits that write no number of 32 bits
+number_large : (least most : ℕ) (bytes : ByteList) → most < 2 ^ 32 → is_number bytes ≡ true
+    → ((0 < length bytes) × (digits_value 10 bytes < 2 ^ 32) → ⊥)
     → None ≡ number_of least most bytes
 number_large least most [] few are none = refl
 number_large least most (b ∷ bytes) few are none =
@@ -35,14 +35,14 @@ number_large least most (b ∷ bytes) few are none =
     in_range-none least most n large
     ∙ sym (cond-true (is_number (b ∷ bytes)) (in_range least most n) None are)
 
--- digits that aren't read as a number of 16 bits
-pub number_unread : (least most : ℕ) (bytes : ByteList) → most < 2 ^ 16
-    → ParsesUnsigned {E = Unit {0}} 16 10 bytes (Err tt)
+-- digits that aren't read as a number of 32 bits
+pub number_unread : (least most : ℕ) (bytes : ByteList) → most < 2 ^ 32
+    → ParsesUnsigned {E = Unit {0}} 32 10 bytes (Err tt)
     → is_number bytes ≡ true → None ≡ number_of least most bytes
 number_unread least most bytes few unread are =
     let all = (and_parts (not (length bytes == 0)) (list_all is_ascii_digit bytes) are).1 in
     number_large least most bytes few are
-    (parse_digits numeral {E = Unit {0}} 16 bytes (Err tt) unread all)
+    (parse_digits numeral {E = Unit {0}} 32 bytes (Err tt) unread all)
 
 -- what is given under a condition
 pub guard_some : {X : Type 0} (b : Bool) (o : Option X) (x : X)

@@ -8,7 +8,7 @@ use Rattle.tuple_values.specs.declared.names.NameShards.{NameShards}
 use Rattle.command_words.specs.Words.{is_name, number_of}
 use Rattle.command_words.specs.Names.{IsFit, differ, shards_in}
 use Rattle.command_words.specs.declared.command.Command.{Command}
-use Rattle.command_words.specs.declared.command.Command.TheVariants.{Eval, Script, Serve}
+use Rattle.command_words.specs.declared.command.Command.TheVariants.{Eval, Script, Serve, Load}
 use Rattle.command_words.specs.declared.command.Settings.{Settings}
 
 -- the word names the collection: its name, an equals sign and the digits of its shards
@@ -33,39 +33,51 @@ pub record AreNames (words : List ByteList) (names : List NameShards) : Type 0 w
   pub apart : differ names ≡ true
   pub few : shards_in names ≤ 16
 
+-- how an option is spelled: its value is the next word, or stands behind an equals sign in its own
+pub data Spelling : Type 0 where
+  Apart : Spelling
+  Joined : Spelling
+
 -- an option, with the digits of its value
 pub data ServeOption : Type 0 where
-  PortOption : ByteList → ServeOption
-  WorkersOption : ByteList → ServeOption
-  RunnersOption : ByteList → ServeOption
+  PortOption : Spelling → ByteList → ServeOption
+  WorkersOption : Spelling → ByteList → ServeOption
+  RunnersOption : Spelling → ByteList → ServeOption
 
--- the words of options, two each
+-- the words of an option of this name, before others
+abbrev pub spelled : Spelling → (name digits : ByteList) → List ByteList → List ByteList
+spelled Apart name digits words = name ∷ digits ∷ words
+spelled Joined name digits words = (name ++ (61 ∷ digits)) ∷ words
+
+-- the words of options
 abbrev pub words_of : List ServeOption → List ByteList
 words_of [] = []
-words_of (PortOption digits ∷ options) = codes "--port" ∷ digits ∷ words_of options
-words_of (WorkersOption digits ∷ options) = codes "--workers" ∷ digits ∷ words_of options
-words_of (RunnersOption digits ∷ options) = codes "--runners" ∷ digits ∷ words_of options
+words_of (PortOption by digits ∷ options) = spelled by (codes "--port") digits (words_of options)
+words_of (WorkersOption by digits ∷ options) =
+    spelled by (codes "--workers") digits (words_of options)
+words_of (RunnersOption by digits ∷ options) =
+    spelled by (codes "--runners") digits (words_of options)
 
 -- the digits of each option for the port
 abbrev pub ports_in : List ServeOption → List ByteList
 ports_in [] = []
-ports_in (PortOption digits ∷ options) = digits ∷ ports_in options
-ports_in (WorkersOption digits ∷ options) = ports_in options
-ports_in (RunnersOption digits ∷ options) = ports_in options
+ports_in (PortOption by digits ∷ options) = digits ∷ ports_in options
+ports_in (WorkersOption by digits ∷ options) = ports_in options
+ports_in (RunnersOption by digits ∷ options) = ports_in options
 
 -- the digits of each option for the workers
 abbrev pub workers_in : List ServeOption → List ByteList
 workers_in [] = []
-workers_in (PortOption digits ∷ options) = workers_in options
-workers_in (WorkersOption digits ∷ options) = digits ∷ workers_in options
-workers_in (RunnersOption digits ∷ options) = workers_in options
+workers_in (PortOption by digits ∷ options) = workers_in options
+workers_in (WorkersOption by digits ∷ options) = digits ∷ workers_in options
+workers_in (RunnersOption by digits ∷ options) = workers_in options
 
 -- the digits of each option for the runners
 abbrev pub runners_in : List ServeOption → List ByteList
 runners_in [] = []
-runners_in (PortOption digits ∷ options) = runners_in options
-runners_in (WorkersOption digits ∷ options) = runners_in options
-runners_in (RunnersOption digits ∷ options) = digits ∷ runners_in options
+runners_in (PortOption by digits ∷ options) = runners_in options
+runners_in (WorkersOption by digits ∷ options) = runners_in options
+runners_in (RunnersOption by digits ∷ options) = digits ∷ runners_in options
 
 -- one option at most says the value, from the least to the most; where none does it is the default
 abbrev pub IsSaid : (default least most : ℕ) → List ByteList → ℕ → Type 0
@@ -82,7 +94,7 @@ pub record AreOptions (words : List ByteList) (settings : Settings) : Type 0 whe
   pub runners : IsSaid 1 1 4 (runners_in options) settings.runners
 
 -- the words are the command: its own word, the options of a server, and then the names, of which
--- a script and a server have one at least
+-- a script and a server have one at least, or the digits of a load
 abbrev pub IsCommand : List ByteList → Command → Type 0
 IsCommand words (Eval names) =
     (rest : List ByteList) × (words ≡ codes "eval" ∷ rest) × AreNames rest names
@@ -93,6 +105,9 @@ IsCommand words (Serve settings names) =
     (options : List ByteList) × (rest : List ByteList)
     × (words ≡ codes "serve" ∷ (options ++ rest))
     × AreOptions options settings × AreNames rest names × (names ≢ [])
+IsCommand words (Load n) =
+    (digits : ByteList) × (words ≡ codes "load" ∷ digits ∷ [])
+    × (number_of 1 200000 digits ≡ Some n)
 
 -- the words say some command
 abbrev pub IsReadable : List ByteList → Type 0

@@ -1,9 +1,11 @@
 -- The settings that the options of `serve` say before the names, as they are read (own).
-use Rattle.std.specs.Prelude.{ℕ, List, [], ◌∷◌, Option, Some, None, is_some, unwrap_or}
-use Rattle.std.specs.Prelude.{option_map, option_and_then, bytes_eq, codes, if◌then◌else◌}
+use Rattle.std.specs.Prelude.{ℕ, nat_lt, List, [], ◌∷◌, length, Option, Some, None, is_some}
+use Rattle.std.specs.Prelude.{unwrap_or, option_map, option_and_then, bytes_eq, codes}
+use Rattle.std.specs.Prelude.{if◌then◌else◌}
 use Rattle.std.specs.Option.{option_map_or}
+use Rattle.std.specs.List.{position_or_len, before_first, after_first}
 use Rattle.tuple_values.specs.Document.{ByteList}
-use Rattle.command_words.specs.Words.{number_of}
+use Rattle.command_words.specs.Words.{number_of, is_equals}
 use Rattle.command_words.specs.declared.command.Settings.{Settings}
 use Rattle.command_words.specs.declared.settings.Said.{Said}
 use Rattle.command_words.specs.declared.settings.Setting.{Setting}
@@ -15,6 +17,15 @@ setting_of word =
     if bytes_eq word (codes "--port") then Some Port
     else if bytes_eq word (codes "--workers") then Some Workers
     else if bytes_eq word (codes "--runners") then Some Runners
+    else None
+
+-- a setting and what stands behind the first equals sign of a word, where what stands before it is
+-- the setting's option
+abbrev pub joined_of : ByteList → Option (Setting × ByteList)
+joined_of word =
+    if nat_lt (position_or_len is_equals word) (length word)
+    then option_map (λ setting. (setting, after_first is_equals word))
+    (setting_of (before_first is_equals word))
     else None
 
 -- the value that digits give a setting, where it may have that
@@ -53,12 +64,20 @@ settings_by said = record {
 abbrev pub settings_behind : Said → List ByteList → Option (Settings × List ByteList)
 settings_behind said [] = Some (settings_by said, [])
 settings_behind said (word ∷ []) =
-    option_map_or (λ setting. None) (setting_of word) (Some (settings_by said, word ∷ []))
+    option_map_or
+    (λ joined. option_and_then (λ more. settings_behind more [])
+    (said_with said joined.0 joined.1))
+    (joined_of word)
+    (option_map_or (λ setting. None) (setting_of word) (Some (settings_by said, word ∷ [])))
 settings_behind said (word ∷ digits ∷ words) =
     option_map_or
+    (λ joined. option_and_then (λ more. settings_behind more (digits ∷ words))
+    (said_with said joined.0 joined.1))
+    (joined_of word)
+    (option_map_or
     (λ setting. option_and_then (λ more. settings_behind more words)
     (said_with said setting digits))
-    (setting_of word) (Some (settings_by said, word ∷ digits ∷ words))
+    (setting_of word) (Some (settings_by said, word ∷ digits ∷ words)))
 
 -- the settings that options at the front of the words say, and the words behind these
 abbrev pub settings_of : List ByteList → Option (Settings × List ByteList)

@@ -3,11 +3,17 @@ ghost use Rattle.std.specs.Prelude.{◌≡◌};
 ghost use Rattle.command_words.specs.declared.fault.WordsFault.TheVariants.{OutOfMemory};
 
 use thiserror::Error;
-use tuple_values::Memory;
+use tuple_values::{Memory, Text};
 
 /// Why words aren't read.
-#[derive(Clone, Copy, Debug, PartialEq, Eq, Error)]
+#[derive(Debug, Drop, Error)]
 pub enum WordsFault {
+    /// The words ask for this text, of help or of the version.
+    #[error("a text is shown")]
+    Shown { text: Text },
+    /// The words say nothing, and this text tells why.
+    #[error("words refused")]
+    RefusedBy { text: Text },
     /// The words say nothing.
     #[error("words refused")]
     Refused,

@@ -1,6 +1,6 @@
 // The names of collections, one a word.
-ghost use Rattle.std.specs.Prelude.{◌≡◌, IfOk, IsErrOf, IsSome, is_some};
-ghost use Rattle.command_words.specs.Answering.{Answers};
+ghost use Rattle.std.specs.Prelude.{◌≡◌, IfOk, IfErr, IsErrOf, IsSome, is_some};
+ghost use Rattle.command_words.specs.Answering.{Answers, IsPlainFault};
 ghost use Rattle.command_words.specs.Names.{says_name, is_said, each_of, names_of, some_names_of};
 ghost use Rattle.command_words.specs.Names.{AreFit};
 ghost use Rattle.command_words.specs.Words.{name_of};
@@ -55,7 +55,8 @@ fn are_names(words: &[Text]) -> bool
 
 // The collection that each word names.
 fn read_each(alloc: Global, words: &[Text]) -> Result<Names, WordsFault>
-    ensures { Answers (each_of words.now) result }
+    ensures computed { Answers (each_of words.now) result }
+    ensures plain { IfErr result IsPlainFault }
 {
     let mut names = Names::new(alloc);
     for word in words {
@@ -75,6 +76,9 @@ pub fn read_names(alloc: Global, words: &[Text]) -> Result<Names, WordsFault>
 
     // Memory can be wanting only where they name some.
     ensures memory { IsErrOf result WordsFault.OutOfMemory → IsSome (names_of words.now) }
+
+    // No text comes with a fault.
+    ensures plain { IfErr result IsPlainFault }
 {
     if !are_names(words) {
         return Err(WordsFault::Refused);
@@ -86,6 +90,7 @@ pub fn read_names(alloc: Global, words: &[Text]) -> Result<Names, WordsFault>
 pub fn read_some_names(alloc: Global, words: &[Text]) -> Result<Names, WordsFault>
     ensures computed { Answers (some_names_of words.now) result }
     ensures memory { IsErrOf result WordsFault.OutOfMemory → IsSome (some_names_of words.now) }
+    ensures plain { IfErr result IsPlainFault }
 {
     if words.is_empty() {
         return Err(WordsFault::Refused);

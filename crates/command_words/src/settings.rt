@@ -1,10 +1,11 @@
 // The settings of a server, which options say before the names.
 ghost use Rattle.std.specs.Prelude.{◌≡◌, MatchOption, Some, None};
-ghost use Rattle.command_words.specs.Settings.{setting_of, value_of, said_of, with_value};
+ghost use Rattle.command_words.specs.Settings.{setting_of, joined_of, value_of, said_of};
+ghost use Rattle.command_words.specs.Settings.{with_value};
 ghost use Rattle.command_words.specs.Settings.{said_with, settings_by, settings_of};
 
 use crate::Settings;
-use crate::word::number_of;
+use crate::word::short_number_of;
 use tuple_values::Text;
 
 // One of the settings that options may say.
@@ -87,14 +88,24 @@ fn setting_of(word: &str) -> Option<Setting>
     }
 }
 
+// The setting of an option's word, and its value behind the first equals sign.
+fn joined_of(word: &str) -> Option<(Setting, &str)>
+    ensures { MatchOption result (joined_of word.now ≡ None)
+        (λ joined. joined_of word.now ≡ Some (joined.0, joined.1.now)) }
+{
+    let (name, digits) = word.split_once('=')?;
+    let setting = setting_of(name)?;
+    Some((setting, digits))
+}
+
 // The value that digits give a setting, where it may have that.
 fn value_of(setting: Setting, digits: &str) -> Option<u16>
     ensures { result ≡ value_of setting digits.now }
 {
     match setting {
-        Setting::Port => number_of(digits, 0, 65535),
-        Setting::Workers => number_of(digits, 1, 16),
-        Setting::Runners => number_of(digits, 1, 4),
+        Setting::Port => short_number_of(digits, 0, 65535),
+        Setting::Workers => short_number_of(digits, 1, 16),
+        Setting::Runners => short_number_of(digits, 1, 4),
     }
 }
 
@@ -110,6 +121,11 @@ pub fn settings_of(words: &[Text]) -> Option<(Settings, &[Text])>
     };
     let mut rest = words;
     while let Some((word, behind)) = rest.split_first() {
+        if let Some((setting, digits)) = joined_of(word.as_str()) {
+            said = said.with(setting, digits)?;
+            rest = behind;
+            continue;
+        }
         let Some(setting) = setting_of(word.as_str()) else {
             break;
         };

@@ -57,20 +57,28 @@ fn is_number(digits: &str) -> bool
 }
 
 // The number that digits write, where it is one from the least to the most.
-pub fn number_of(digits: &str, least: u16, most: u16) -> Option<u16>
+pub fn number_of(digits: &str, least: u32, most: u32) -> Option<u32>
     ensures { result ≡ number_of least most digits.now }
 {
     if !is_number(digits) {
         return None;
     }
-    match digits.parse::<u16>() {
+    match digits.parse::<u32>() {
         Ok(number) => in_range(number, least, most),
         Err(_) => None,
     }
 }
 
+// The same of 16 bits.
+pub fn short_number_of(digits: &str, least: u16, most: u16) -> Option<u16>
+    ensures { result ≡ number_of least most digits.now }
+{
+    let number = number_of(digits, u32::from(least), u32::from(most))?;
+    Some(number as u16)
+}
+
 // The number, where it is from the least to the most.
-fn in_range(number: u16, least: u16, most: u16) -> Option<u16>
+fn in_range(number: u32, least: u32, most: u32) -> Option<u32>
     ensures { result ≡ in_range least most number }
 {
     if least <= number && number <= most {
@@ -84,7 +92,7 @@ fn in_range(number: u16, least: u16, most: u16) -> Option<u16>
 fn shards_of(digits: &str) -> Option<u16>
     ensures { result ≡ shards_of digits.now }
 {
-    number_of(digits, 1, 8)
+    short_number_of(digits, 1, 8)
 }
 
 /// The name in a word and its number of shards, which stand round its first equals sign.

@@ -7,4 +7,4 @@ pub returns-clause-fit : goal.returns-clause-fit
 returns-clause-fit c =
     let some : true ≡ is_some (names_of c.args.words.now) = cc in
     names_fit c.args.words.now c.read_each.result
-    (names_answered c.args.words.now c.read_each.result some c.read_each.ensures)
+    (names_answered c.args.words.now c.read_each.result some c.read_each.ensures.computed)
