@@ -26,6 +26,13 @@ fn real_doors<'a, R: Net<Listener = TcpListener, Stream = TcpStream> + Wait + Sy
     Ok(DoorRow::of(doors))
 }
 
+/// Writes the line of an ending, and answers its status.
+fn tell<E: Sink>(ending: Ending, errors: &mut E) -> u8 {
+    let status = ending.status();
+    ending.say(errors);
+    status
+}
+
 /// Runs the command of the words over these streams, real doors and the system's clock.
 fn run<
     R: Net<Listener = TcpListener, Stream = TcpStream> + Threads + Wait + Clock + Sync,
@@ -35,8 +42,7 @@ fn run<
 >(rt: &R, alloc: Global, words: &Words, input: &mut I, output: &mut O, errors: &mut E) -> u8 {
     let shared = SharedListener::unbound();
     let Ok(Some(mut row)) = real_doors(rt, alloc, &shared) else {
-        Ending::OutOfMemory.say(errors);
-        return Ending::OutOfMemory.status();
+        return tell(Ending::OutOfMemory, errors);
     };
     let clock = SteadyClock::new(rt);
     run_words(
@@ -55,10 +61,7 @@ fn main(rt: HostRuntime) -> ExitCode {
             &mut WriterSink::new(rt.stdout()),
             &mut errors,
         ),
-        Err(ending) => {
-            ending.say(&mut errors);
-            ending.status()
-        }
+        Err(ending) => tell(ending, &mut errors),
     };
     ExitCode::from(status)
 }

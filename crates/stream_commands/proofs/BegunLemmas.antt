@@ -1,17 +1,17 @@
 -- A script of which a part is written.
 use Rattle.std.proofs.Common.{ℕ, false, List, [], refl, sym, subst, append-nil, inl, inr, arith}
-use Rattle.std.specs.Prelude.{◌≡◌, Option, Some, None, IfSome}
+use Rattle.std.specs.Prelude.{Option, Some, None}
 use Rattle.tuple_values.specs.declared.names.NameShards.{NameShards}
 use Rattle.io_edge.specs.Edge.{Appends}
 use Rattle.form_request.specs.Streams.{begun}
 use Rattle.form_request.specs.declared.reading.After.{After}
 use Rattle.command_words.specs.declared.command.Command.{Command}
-use Rattle.command_words.specs.declared.command.Command.TheVariants.{Eval, Script, Serve}
+use Rattle.command_words.specs.declared.command.Command.TheVariants.{Eval, Script, Serve, Load}
 use Rattle.stream_handler.specs.Sessions.{Came}
 use Rattle.stream_handler.proofs.PassLemmas.{passes_none}
 use Rattle.stream_handler.proofs.WireLemmas.{appends_none}
 use Rattle.stream_commands.specs.Endings.{Writes}
-use Rattle.stream_commands.specs.declared.ending.Ending.TheVariants.{InputFailed, OutOfMemory}
+use Rattle.stream_commands.specs.declared.ending.Ending.TheVariants.{OutOfMemory}
 use Rattle.stream_commands.specs.Scripts.{IsScriptBegun, IsScriptRead, IsScriptRun, script_text, tail_text}
 use Rattle.stream_commands.specs.Inputs.{IsReadWithin}
 
@@ -86,17 +86,4 @@ nothing_left None (Some all) written = refl
 nothing_left (Some (Eval names)) (Some all) written = (unread all, refl)
 nothing_left (Some (Script names)) (Some all) written = script_unbegun names (Some all) written
 nothing_left (Some (Serve settings names)) (Some all) written = (refl, refl)
-
--- an expression was not answered
-pub eval_starved : (names : List NameShards) (had left old new : Option (List ℕ))
-    → IfSome had (λ all. IsReadWithin all left) → new ≡ old
-    → Writes OutOfMemory (Some (Eval names)) had left old new
-eval_starved names None left old new within is = tt
-eval_starved names (Some all) left old new within is = (within, is)
-
--- nor where input failed
-pub eval_broken : (names : List NameShards) (had left old new : Option (List ℕ))
-    → IfSome had (λ all. IsReadWithin all left) → new ≡ old
-    → Writes InputFailed (Some (Eval names)) had left old new
-eval_broken names None left old new within is = tt
-eval_broken names (Some all) left old new within is = (within, is)
+nothing_left (Some (Load n)) (Some all) written = (refl, refl)

@@ -2,6 +2,7 @@ pub mod TakingLemmas
 pub mod AloneLemmas
 pub mod BegunLemmas
 pub mod WritingLemmas
+pub mod LoadLemmas
 pub mod CauseLemmas
 pub mod BoardLemmas
 pub mod RoundLemmas

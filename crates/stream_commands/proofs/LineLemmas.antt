@@ -5,7 +5,7 @@ use Rattle.io_edge.specs.Edge.{Appends, AppendsPrefix, PutGives, PutHasCause, Ro
 use Rattle.io_edge.specs.declared.sink.Put.{Put}
 use Rattle.io_edge.specs.declared.sink.Put.TheVariants as put
 use Rattle.stream_handler.proofs.WireLemmas.{appends_join, appends_part, part_longer, rose_since}
-use Rattle.stream_commands.specs.Endings.{SaysLine}
+use Rattle.stream_commands.specs.Lines.{SaysLine}
 
 -- a piece fails behind others
 pub said_part : (old mid new : Option (List ℕ)) (f0 f1 f2 : ℕ) (x y z line : List ℕ)

@@ -1,16 +1,21 @@
 -- What a command leaves of a row of doors.
 use Rattle.std.proofs.Common.{◌≡◌, ◌++◌, ◌∷◌, [], ℕ, List, map, refl, sym, ap, ◌∙◌, subst, inl, inr}
-use Rattle.std.specs.Prelude.{◌||◌, Bool, true, false, suc, Option}
+use Rattle.std.specs.Prelude.{◌||◌, Bool, true, false, suc, Option, Some, None}
 use Rattle.std.specs.List.{list_any}
+use Rattle.tuple_values.specs.Document.{ByteList}
 use Rattle.exchange_rules.specs.Rows.{Layout}
 use Rattle.command_words.specs.declared.command.Command.{Command}
 use Rattle.pass_calls.specs.Serving.{HasFailed}
 use Rattle.site_server.specs.Doors.{Doors}
 use Rattle.site_server.specs.Ended.{AreWorked, IsRowServed, Worked, has_failed, new_in, old_in}
 use Rattle.stream_commands.specs.DoorRows.{Row}
-use Rattle.stream_commands.specs.Endings.{HasCounted, HasOneRisen}
+use Rattle.stream_commands.specs.Endings.{EndsFor, HasCounted, HasOneRisen}
+use Rattle.stream_commands.specs.Lines.{status_of}
 use Rattle.stream_commands.specs.Servers.{HasServedRow, LeavesRow}
 use Rattle.stream_commands.specs.Servers.{ending_by}
+use Rattle.stream_commands.specs.declared.ending.Ending.{Ending}
+use Rattle.stream_commands.specs.declared.ending.Ending.TheVariants.{Done, Shown, InputFailed, OutputFailed, DoorsFailed}
+use Rattle.stream_commands.specs.declared.ending.Ending.TheVariants.{WordsRefused, WordsTold, Faulty, OutOfMemory, InputCut, MessageRefused}
 
 -- what is left of a row
 module _ {D I O : Type 0} (kind : Doors D I O) (tells : ℕ → Type 0) (old : List D) (new : Row D) where
@@ -20,6 +25,23 @@ module _ {D I O : Type 0} (kind : Doors D I O) (tells : ℕ → Type 0) (old : L
       → LeavesRow kind tells command old new (ending_by failed)
   leaves_by command true served = served
   leaves_by command false served = served
+
+  -- at 0 none did, and where words are shown a text there is no server
+  pub served_at : (words : List ByteList) (command : Option Command) (end : Ending)
+      → EndsFor words command end → status_of end ≡ 0 → LeavesRow kind tells command old new end
+      → HasServedRow kind tells command false old new
+  served_at words command Done ends is left = left
+  served_at words None Shown ends is left = left
+  served_at words (Some command) Shown ends is left = absurd ends
+  served_at words command InputFailed ends is left = absurd (cc)
+  served_at words command OutputFailed ends is left = absurd (cc)
+  served_at words command DoorsFailed ends is left = absurd (cc)
+  served_at words command WordsRefused ends is left = absurd (cc)
+  served_at words command (WordsTold text) ends is left = absurd (cc)
+  served_at words command Faulty ends is left = absurd (cc)
+  served_at words command OutOfMemory ends is left = absurd (cc)
+  served_at words command InputCut ends is left = absurd (cc)
+  served_at words command (MessageRefused status) ends is left = absurd (cc)
 
 -- how often the doors have failed that workers served
 module _ {D I O : Type 0} (kind : Doors D I O) (tells : ℕ → Type 0) (l : Layout) where

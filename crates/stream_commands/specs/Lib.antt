@@ -4,7 +4,9 @@ pub mod Evaluations
 pub mod Boards
 pub mod Rounds
 pub mod Scripts
+pub mod Texts
 pub mod Commands
+pub mod Lines
 pub mod Endings
 pub mod Serving
 pub mod DoorRows

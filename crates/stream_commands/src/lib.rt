@@ -5,6 +5,7 @@ mod door_row;
 mod ending;
 mod eval;
 mod input;
+mod load;
 mod run;
 mod script;
 mod server;

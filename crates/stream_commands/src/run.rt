@@ -1,28 +1,50 @@
 // The top call.
-ghost use Rattle.std.specs.Prelude.{◌≡◌, ◌⊎◌, ◌↔◌, IfSome, None, false, map};
-ghost use Rattle.io_edge.specs.Edge.{Rose};
+ghost use Rattle.std.specs.Prelude.{◌≡◌, ◌⊎◌, ℕ, List, Option, IfSome, None, Some, false, map};
+ghost use Rattle.io_edge.specs.Edge.{Appends, AppendsPrefix, Rose};
 ghost use Rattle.command_words.specs.Commands.{command_of};
+ghost use Rattle.command_words.specs.Program.{MayShow};
+ghost use Rattle.command_words.specs.declared.command.Command.TheVariants.{Load};
+ghost use Rattle.load_rules.specs.Summary.{load_text};
 ghost use Rattle.stream_commands.specs.Commands.{IsCommand, IsAnswered, IsRefused, IsBegun, IsShort};
 ghost use Rattle.stream_commands.specs.Endings.{HasCause, HasCounted, HasOneRisen, IsCompletion};
-ghost use Rattle.stream_commands.specs.Endings.{IsToldEnding, SaysLine, Writes};
+ghost use Rattle.stream_commands.specs.Endings.{IsToldEnding, TellsLoad, Writes};
+ghost use Rattle.stream_commands.specs.Lines.{SaysLine, status_of};
 ghost use Rattle.stream_commands.specs.Servers.{HasServedRow, LeavesRow};
 ghost use Rattle.site_server.specs.Doors.{doors};
 
 use crate::door_row::DoorRow;
 use crate::ending::Ending;
 use crate::eval::eval;
+use crate::load::load;
 use crate::script::script;
 use crate::server::serve;
 use command_words::{Command, WordsFault, read_command};
-use io_edge::{Gate, Sink, Source};
+use io_edge::{Gate, Put, Sink, Source};
 use server_edge::{Clock, Door};
 use std::alloc::Global;
 use std::sync::Wait;
 use std::thread::Threads;
 use std::time::Clock as SystemClock;
 use stream_handler::SessionEnd;
-use tuple_values::Words;
+use tuple_values::{Text, Words};
 
+// Writes the text that words ask for which are no command. Nothing is read from input.
+fn show<O: Sink>(text: &Text, output: &mut O) -> Ending
+    ensures writes { (had : Option (List ℕ)) → Writes result None had had
+        (O.written output.old) (O.written output.new) }
+    ensures shown { result ≡ Ending.Shown
+        → Appends (O.written output.old) (O.written output.new) text.now }
+    ensures ending { (result ≡ Ending.Shown) ⊎ (result ≡ Ending.OutputFailed) }
+    ensures risen { result ≡ Ending.OutputFailed
+        → Rose (O.faults output.old) (O.faults output.new) }
+{
+    match output.put(text.as_str().as_bytes()) {
+        Put::All => Ending::Shown,
+        Put::Failed => Ending::OutputFailed,
+    }
+}
+
+// Carries out the command that the words give, or tells why there is none.
 fn run<
     R: Threads + Wait + SystemClock + Sync,
     I: Source,
@@ -43,7 +65,9 @@ fn run<
     requires begun { row.old.ended ≡ None }
     ensures writes { Writes result (command_of words.now)
         (I.left input.old) (I.left input.new) (O.written output.old) (O.written output.new) }
-    ensures silent { result ≡ Ending.WordsRefused → O.written output.new ≡ O.written output.old }
+    ensures loaded { TellsLoad (command_of words.now) result
+        (O.written output.old) (O.written output.new) }
+    ensures silent { status_of result ≡ 2 → O.written output.new ≡ O.written output.old }
     ensures cause { HasCause result words.now (record {
       input_old = I.faults input.old;
       input_new = I.faults input.new;
@@ -61,6 +85,9 @@ fn run<
         Ok(Command::Serve { settings, names }) => {
             serve(rt, alloc, settings, names, row, clock, gate)
         }
+        Ok(Command::Load { n }) => load(rt, alloc, n, output, clock, gate),
+        Err(WordsFault::Shown { text }) => show(&text, output),
+        Err(WordsFault::RefusedBy { text }) => Ending::WordsTold { text },
         Err(WordsFault::Refused) => Ending::WordsRefused,
         Err(WordsFault::OutOfMemory) => Ending::OutOfMemory,
     }
@@ -88,8 +115,10 @@ pub fn run_words<
     clock: &C,
     gate: &G,
 ) -> u8
-    // 2 comes exactly where the words are no command, and then nothing is written.
-    ensures words { (result ≡ 2) ↔ (¬ (IsCommand words.now)) }
+    // 2 comes exactly where the words are no command, unless they ask for help or the version, which
+    // is shown with 0. At 2 nothing is written.
+    ensures words { result ≡ 2 → ¬ (IsCommand words.now) }
+    ensures no_command { ¬ (IsCommand words.now) → ¬ (MayShow words.now) → result ≡ 2 }
     ensures silent { result ≡ 2 → O.written output.new ≡ O.written output.old }
 
     // At 0 what answers the command is written, at 3 what tells its first fault, and at each status a
@@ -103,6 +132,13 @@ pub fn run_words<
     ensures begun { IfSome (I.left input.old) (λ all.
         IsBegun (command_of words.now) all (I.left input.new)
         (O.written output.old) (O.written output.new)) }
+
+    // The strongest sentence about threads. A load is made by eight of them, which come to its one site
+    // in any order; yet what is written is the summary that the number of its documents alone gives:
+    // at 0 all of it, at each status a first part. That holds of any input.
+    ensures loaded { (n : ℕ) → command_of words.now ≡ Some (Load n)
+        → (result ≡ 0 → Appends (O.written output.old) (O.written output.new) (load_text n))
+        × AppendsPrefix (O.written output.old) (O.written output.new) (load_text n) }
 
     // At 5 all that a script is to write is written, and its input ends inside a message or has one
     // that is refused.
@@ -144,6 +180,7 @@ pub fn run_words<
 {
     row.begin();
     let ending = run(rt, alloc, words, input, output, row, clock, gate);
+    let status = ending.status();
     ending.say(errors);
-    ending.status()
+    status
 }

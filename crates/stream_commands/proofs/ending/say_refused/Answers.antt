@@ -3,7 +3,7 @@ use Rattle.std.specs.Prelude.{codes}
 use Rattle.std.specs.Fmt.{decimal}
 use Rattle.io_edge.specs.Edge.{Appends, AppendsPrefix}
 use Rattle.stream_handler.proofs.WireLemmas.{appends_join, appends_none}
-use Rattle.stream_commands.specs.Endings.{refused_line}
+use Rattle.stream_commands.specs.Lines.{refused_line}
 use Rattle.stream_commands.proofs.LineLemmas.{said_last, said_part}
 use Rattle.stream_commands.proofs.ending.say_refused.Goals as goal
 
