@@ -26,6 +26,8 @@ mod of_stream_handler;
 #[cfg(test)]
 mod of_topics;
 #[cfg(test)]
+mod of_words;
+#[cfg(test)]
 mod running;
 #[cfg(test)]
 mod samples;

@@ -1,6 +1,6 @@
-// Expressions at their limits, words that are refused, and reads and writes that fail.
+// Expressions at their limits, and reads and writes that fail.
 use crate::of_eval::{END, OPENING, gives, tells};
-use crate::running::{Failing, Wanted, a_run, fails, joined, leaves, source};
+use crate::running::{Failing, a_run, fails, source};
 use io_edge::NoGate;
 use std::alloc::Global;
 use std::sync::Wait;
@@ -89,38 +89,6 @@ fn an_input_has_65_536_bytes_at_most(rt: HostRuntime) -> Result<(), Fail> {
     assert!(rt; tells(&rt, rt.alloc(), "eval", long, "TooLarge")?);
     let short = blanks(rt.alloc(), 65_536)?;
     assert!(rt; tells(&rt, rt.alloc(), "eval", short, "Syntax at 65536")?);
-    Ok(())
-}
-
-const REFUSED: [&str; 8] = [
-    "",
-    "x",
-    "eval x",
-    "eval c=0",
-    "eval c=1 c=1",
-    "script",
-    "script c=9",
-    "--help",
-];
-
-fn is_refused<R: Threads + Wait + SystemClock + Sync>(
-    rt: &R,
-    alloc: Global,
-    words: &str,
-) -> Result<bool, Memory> {
-    let wanted = Wanted {
-        status: 2,
-        output: &[],
-        errors: "words refused\n",
-    };
-    leaves(rt, alloc, words, joined(alloc, &["tuple()"])?, wanted)
-}
-
-#[test]
-fn other_words_are_refused(rt: HostRuntime) -> Result<(), Fail> {
-    for words in &REFUSED {
-        assert!(rt; is_refused(&rt, rt.alloc(), words)?, "with {words}");
-    }
     Ok(())
 }
 
