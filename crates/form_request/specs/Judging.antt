@@ -1,5 +1,5 @@
 -- What becomes of a message by its head: its refusal, or how it is read on (RFC 9112, sections 3.2,
--- 6.1, 6.3 and 9.6; RFC 9110, section 10.1.1; the limits and the order of refusals are own).
+-- 6.1, 6.3, 7.1 and 9.6; RFC 9110, section 10.1.1; the limits and the order of refusals are own).
 use Rattle.std.specs.Prelude.{ℕ, ◌&&◌, ◌||◌, ◌==◌, not, nat_lt, Bool, true, false, List, [], ◌∷◌, map, take, Option, None, Some, is_some, bytes_eq, codes, if◌then◌else◌}
 use Rattle.httparse.specs.Grammar.{RequestHead}
 use Rattle.httparse.specs.Spans.{name_and_value, span_bytes}
@@ -109,6 +109,7 @@ plan_of handler collection parts size =
       length = body;
       size = size;
       closes = (parts.minor == 0) || has (codes "connection") Close parts.fields;
+      chunks = parts.minor == 1;
       asks = (parts.minor == 1) && nat_lt 0 body && has (codes "expect") Continue parts.fields;
       is_form = is_post parts.method && is_stream handler;
     }

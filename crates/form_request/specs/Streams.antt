@@ -42,6 +42,7 @@ request_of plan body = record {
   params = if plan.is_form then plan.params ++ params_of body else plan.params;
   body = body;
   closes = plan.closes;
+  chunks = plan.chunks;
 }
 
 -- the stream behind a whole message

@@ -52,6 +52,7 @@ pub fn judge(
                 length,
                 size: head.len() as u32,
                 closes: closes(head, fields, line.version),
+                chunks: line.version == 1,
                 asks: asks(head, fields, line.version, length),
                 is_form: is_same(method, b"POST") && is_stream_handler(handler),
             }))

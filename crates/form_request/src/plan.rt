@@ -17,6 +17,8 @@ pub struct Plan {
     /// The number of bytes of the head, without the empty lines before it.
     pub size: u32,
     pub closes: bool,
+    /// Whether the reply may go in chunks.
+    pub chunks: bool,
     /// Whether a `100 Continue` is still to be answered.
     pub asks: bool,
     /// Whether the body is read as parameters too.

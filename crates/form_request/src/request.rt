@@ -42,6 +42,9 @@ pub struct Request {
     pub body: Bytes,
     /// Whether the connection ends with this request.
     pub closes: bool,
+    /// Whether its reply may go in chunks (RFC 9112, section 7.1): true for HTTP/1.1, false for
+    /// 1.0.
+    pub chunks: bool,
 }
 
 impl Drop for Request {
@@ -52,6 +55,7 @@ impl Drop for Request {
             params,
             body,
             closes: _,
+            chunks: _,
         } = self;
         drop(handler);
         drop(collection);

@@ -175,6 +175,7 @@ fn make_request(alloc: Global, plan: &Plan, body: &[u8]) -> Result<Request, Memo
         params,
         body: Bytes::from_vec(body),
         closes: plan.closes,
+        chunks: plan.chunks,
     })
 }
 
