@@ -1,5 +1,5 @@
 // Tests of form_request, by streams worked by hand from the standards and the rules of requests.
-use crate::request_samples::{PIPELINED, PIPELINED_ANSWERS, READ, REFUSED};
+use crate::request_samples::{CHUNKS, PIPELINED, PIPELINED_ANSWERS, READ, REFUSED};
 use form_request::{
     After, Handler, Param, Reading, Request, Requests, Step100, one_reading, read_pieces,
 };
@@ -41,7 +41,8 @@ fn push_number(log: &mut String, number: u64) -> Result<(), AllocError> {
 fn push_body(log: &mut String, request: &Request) -> Result<(), AllocError> {
     log.push_str(" [")?;
     push_number(log, request.body.len() as u64)?;
-    log.push_str(if request.closes { "] close;" } else { "];" })
+    log.push_str(if request.closes { "] close" } else { "]" })?;
+    log.push_str(if request.chunks { ";" } else { " whole;" })
 }
 
 fn push_request(log: &mut String, request: &Request) -> Result<(), AllocError> {
@@ -68,7 +69,8 @@ fn push_refusal(log: &mut String, status: u16) -> Result<(), AllocError> {
 }
 
 // What a step answers, as a row of a table writes it: `100 `, the refusal's status, or the handler,
-// the collection, the parameters, the length of the body, and `close` where it closes.
+// the collection, the parameters, the length of the body, `close` where it closes, and `whole` where
+// its reply may not go in chunks.
 fn push_step(log: &mut String, step: &Step100) -> Result<Next, AllocError> {
     match step {
         Step100::Wants => Ok(Next::Feed),
@@ -364,6 +366,20 @@ fn first_counts(alloc: Global) -> bool {
 #[test]
 fn the_first_parameter_of_a_name_counts(rt: HostRuntime) {
     assert!(rt; first_counts(rt.alloc()));
+}
+
+fn says(alloc: Global, text: &str, closes: bool, chunks: bool) -> bool {
+    match step_of(alloc, text.as_bytes()) {
+        Ok(Step100::Whole(request)) => request.closes == closes && request.chunks == chunks,
+        _ => false,
+    }
+}
+
+#[test]
+fn a_reply_may_go_in_chunks_but_to_a_request_of_1_0(rt: HostRuntime) {
+    for (text, closes, chunks) in &CHUNKS {
+        assert!(rt; says(rt.alloc(), text, *closes, *chunks), "of {text}");
+    }
 }
 
 fn stops(log: &mut String, requests: &mut Requests, names: &Names, piece: &[u8]) -> bool {

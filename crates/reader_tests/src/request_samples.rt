@@ -49,7 +49,7 @@ pub const READ: [(&str, &str); 17] = [
     ),
     (
         "GET /solr/src/stream HTTP/1.0\r\n\r\n",
-        "stream src [0] close;0",
+        "stream src [0] close whole;0",
     ),
     (
         "GET /solr/src/stream HTTP/1.1\r\nConnection: keep-alive, CLOSE \r\n\r\nx",
@@ -67,7 +67,7 @@ pub const READ: [(&str, &str); 17] = [
     (
         "POST /solr/src/update/json/docs?a=b HTTP/1.0\r\n\
          Expect: 100-continue\r\nContent-Length: 3\r\n\r\na=c",
-        "update src a=b [3] close;0",
+        "update src a=b [3] close whole;0",
     ),
     (
         "GET /solr/src/stream HTTP/1.1\r\nExpect: 100-continue\r\nContent-Length: 0\r\n\r\n",
@@ -84,6 +84,17 @@ pub const READ: [(&str, &str); 17] = [
     ("\r\nGET /solr", "9"),
     ("\r\n\r", "1"),
     ("", "0"),
+];
+
+// Requests, whether the connection ends with each, and whether its reply may go in chunks.
+pub const CHUNKS: [(&str, bool, bool); 3] = [
+    ("GET /solr/src/stream HTTP/1.1\r\n\r\n", false, true),
+    ("GET /solr/src/stream HTTP/1.0\r\n\r\n", true, false),
+    (
+        "GET /solr/src/stream HTTP/1.1\r\nConnection: close\r\n\r\n",
+        true,
+        true,
+    ),
 ];
 
 // Streams with a message that is refused, and the refusal.
