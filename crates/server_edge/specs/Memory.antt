@@ -1,5 +1,5 @@
 -- A door in memory, as contracts see it (own).
-use Rattle.std.specs.Prelude.{ℕ, ◌≡◌, List, [], map, Bool, true, false, if◌then◌else◌}
+use Rattle.std.specs.Prelude.{ℕ, ◌≡◌, List, [], map, true, false, if◌then◌else◌}
 use Rattle.io_edge.specs.Memory.{SourceState, SinkState, fails, raised}
 use Rattle.server_edge.specs.Doors.{Row}
 use Rattle.server_edge.specs.declared.door.Listen.{Listen}

@@ -15,8 +15,9 @@ use std::time::Duration;
 // other side may lose the reply.
 const PIECES_READ_AWAY: u32 = 4_096;
 
-// How many seconds a connection may be idle, as Solr's server has it.
-const IDLE_SECONDS: u64 = 120;
+// How many seconds one read or one write of a connection may wait for the other side. A worker stays
+// with its connection, so clients that are silent or don't read would hold each worker for good.
+const IDLE_SECONDS: u64 = 10;
 
 /// What real doors share: the listener, once one of them has bound it.
 #[derive(Drop)]
@@ -105,11 +106,13 @@ fn accepted(listener: &TcpListener) -> Option<TcpStream> {
     None
 }
 
-// The two ends of a stream, as two handles of one socket. That replies leave at once and that an idle
-// connection ends are asked of it; where they can't be had, it is served without.
+// The two ends of a stream, as two handles of one socket. That replies leave at once and that no read
+// or write waits longer are asked of it; where they can't be had, it is served without.
 fn ends(stream: TcpStream) -> Option<(TcpSource, TcpSink)> {
+    let idle = Some(Duration::from_secs(IDLE_SECONDS));
     let _ = stream.set_nodelay(true);
-    let _ = stream.set_read_timeout(Some(Duration::from_secs(IDLE_SECONDS)));
+    let _ = stream.set_read_timeout(idle);
+    let _ = stream.set_write_timeout(idle);
     let other = stream.try_clone().ok()?;
     Some((TcpSource::new(stream), TcpSink::new(other)))
 }

@@ -6,6 +6,10 @@ use std::io::{ErrorKind, Read, Write};
 use std::marker::Model;
 use std::net::{Shutdown, TcpStream};
 
+// How many bytes one write gives to a stream at most. What a write may wait is meant for so many
+// bytes: a long reply has as long as it needs, if the other side goes on reading.
+const PART_BYTES: usize = 65_536;
+
 /// Where the bytes of a connection come from. A contract sees how often it failed.
 #[derive(Drop)]
 pub struct TcpSource {
@@ -99,10 +103,36 @@ impl Sink for TcpSink {
     ghost faults = { λ faults. faults };
 
     fn put(&mut self, piece: &[u8]) -> Put {
-        if self.stream.write_all(piece).is_err() {
+        if !write_parts(&mut self.stream, piece) {
             self.faults = self.faults.saturating_add(1);
             return Put::Failed;
         }
         Put::All
     }
+}
+
+// Whether the whole piece was written, part by part.
+fn write_parts(stream: &mut TcpStream, piece: &[u8]) -> bool {
+    for part in piece.chunks(PART_BYTES) {
+        if !write_on(stream, part) {
+            return false;
+        }
+    }
+    true
+}
+
+// Whether the whole part was written, also where a signal came before it. A stream takes less only
+// where its time ran out, it failed or a signal came meanwhile: the rest isn't tried then.
+fn write_on(stream: &mut TcpStream, part: &[u8]) -> bool {
+    for _ in 0..u64::MAX {
+        match stream.write(part) {
+            Ok(count) => return count == part.len(),
+            Err(error) => {
+                if error.kind() != ErrorKind::Interrupted {
+                    return false;
+                }
+            }
+        }
+    }
+    false
 }
