@@ -4,5 +4,6 @@ pub mod MembersLemmas
 pub mod FlatFieldsLemmas
 pub mod FlatLemmas
 pub mod RepliesLemmas
+pub mod PiecesLemmas
 pub mod UpdatesLemmas
 pub mod LawsLemmas

@@ -1,17 +1,19 @@
 -- What holds of every body: the members of an object are in order, so that the first is the first
--- by bytes; a document has under each name what the member of the name becomes; and in a list the
--- first fault is told (own).
+-- by bytes; a document has under each name what the member of the name becomes; in a list the
+-- first fault is told; and the pieces of a result set are its bytes (own).
 use Rattle.std.specs.Prelude.{◌≡◌, List, [], ◌∷◌, bytes_eq, Option, option_map, option_and_then, ℕ}
 use Rattle.std.specs.Prelude.{◌+◌, ◌++◌, length, Ok, Err}
 use Rattle.std.specs.Prelude.{find}
 use Rattle.std.specs.declared.cmp.Ordering.TheVariants.{Less}
-use Rattle.std.specs.List.{AllByRecursion}
+use Rattle.std.specs.List.{AllByRecursion, concat}
 use Rattle.serde_json.specs.Data.{Data, Members, put}
-use Rattle.tuple_values.specs.Document.{ByteList, Datum, bytes_cmp, value_at}
+use Rattle.tuple_values.specs.Document.{ByteList, Datum, Doc, bytes_cmp, value_at}
 use Rattle.tuple_values.specs.declared.write.Write.{Write}
 use Rattle.json_text.specs.declared.fault.JsonFault.{JsonFault}
 use Rattle.json_text.specs.Documents.{Member, member_list, field_of, fields_in}
 use Rattle.json_text.specs.Writes.{Reading, each_from}
+use Rattle.json_text.specs.Replies.{body}
+use Rattle.json_text.specs.Pieces.{pieces_of}
 
 -- the name is below the name of each member
 abbrev pub IsUnder : ByteList → List Member → Type 0
@@ -47,3 +49,9 @@ FirstFaultIsTold =
     → each_from write at before ≡ Ok writes → place ≡ at + length before
     → write place value ≡ Err fault
     → each_from write at (before ++ value ∷ after) ≡ Err fault
+
+-- joined, the pieces of a result set are its body
+abbrev pub PiecesAreTheBody : Type 0
+PiecesAreTheBody =
+    (docs : List Doc) (exception : Option ByteList) (millis : ℕ)
+    → concat (pieces_of docs exception millis) ≡ body docs exception millis

@@ -1,5 +1,6 @@
 pub mod Plain
 pub mod Replies
+pub mod Pieces
 pub mod Documents
 pub mod Writes
 pub mod Updates

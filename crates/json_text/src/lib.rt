@@ -9,13 +9,15 @@ mod laws;
 mod members;
 mod pieces;
 mod replies;
+mod result_set;
 mod tuples;
 mod update;
 mod writes;
 
 pub use fault::JsonFault;
-pub use laws::bodies_are_read_in_order;
-pub use replies::{EndTuple, error_text, result_set_text, update_text};
+pub use laws::{bodies_are_read_in_order, pieces_are_the_body};
+pub use replies::{error_text, update_text};
+pub use result_set::{EndTuple, Pieces, result_set_text};
 pub use tuple_values::{Write, Writes};
 pub use tuples::tuple_text;
 pub use update::{Update, read_update};
