@@ -1,7 +1,8 @@
 // Tests of json_text, by values worked by hand from RFC 8259 and the rules of updates and replies.
 use crate::making::{long_tuple, put_long, put_text};
 use json_text::{
-    EndTuple, JsonFault, Update, error_text, read_update, result_set_text, tuple_text, update_text,
+    EndTuple, JsonFault, Pieces, Update, error_text, read_update, result_set_text, tuple_text,
+    update_text,
 };
 use std::alloc::Global;
 use tuple_values::{Bytes, Memory, Text, Tuple, Tuples, Value, Write};
@@ -52,11 +53,15 @@ fn a_tuple_has_its_fields_in_order_of_bytes(rt: HostRuntime) {
 const FAULT_ALONE: &str = "{\"result-set\":{\"docs\":[{\"EOF\":true,\
     \"EXCEPTION\":\"DaemonTaken \\\"d\\\"\",\"RESPONSE_TIME\":12}]}}";
 
-fn ends_with_a_fault(alloc: Global) -> Result<bool, Memory> {
-    let end = EndTuple {
+fn fault_end(alloc: Global) -> Result<EndTuple, Memory> {
+    Ok(EndTuple {
         exception: Some(Text::of(alloc, "DaemonTaken \"d\"")?),
         millis: 12,
-    };
+    })
+}
+
+fn ends_with_a_fault(alloc: Global) -> Result<bool, Memory> {
+    let end = fault_end(alloc)?;
     let text = result_set_text(alloc, &Tuples::empty(alloc), &end);
     Ok(is(text, FAULT_ALONE))
 }
@@ -88,6 +93,79 @@ fn a_result_set_ends_with_the_end_tuple(rt: HostRuntime) {
     assert!(rt;
         ends_with_a_fault(rt.alloc()) == Ok(true) && ends_behind_documents(rt.alloc()) == Ok(true)
     );
+}
+
+const HEAD: &str = "{\"result-set\":{\"docs\":[";
+
+const CLOSE: &str = ",{\"EOF\":true,\"EXCEPTION\":\"DaemonTaken \\\"d\\\"\",\
+    \"RESPONSE_TIME\":12}]}}";
+
+// Whether the pieces of `{"a":1}`, `{"n_i":-2}` and a fault are these literals.
+fn are_cut(alloc: Global) -> Result<bool, Memory> {
+    let first = long_tuple(alloc, "a", 1)?;
+    let second = long_tuple(alloc, "n_i", -2)?;
+    let mut pieces = Pieces::begin(fault_end(alloc)?);
+    Ok(
+        is(pieces.head(alloc), HEAD)
+            && is(pieces.tuple(alloc, &first), "{\"a\":1}")
+            && is(pieces.tuple(alloc, &second), ",{\"n_i\":-2}")
+            && is(pieces.close(alloc), CLOSE),
+    )
+}
+
+fn two_documents(alloc: Global) -> Result<Tuples, Memory> {
+    let mut documents = Tuples::empty(alloc);
+    documents.push(long_tuple(alloc, "a", 1)?)?;
+    documents.push(long_tuple(alloc, "n_i", -2)?)?;
+    Ok(documents)
+}
+
+// The pieces of a result set that ends with a fault, in a row.
+fn in_a_row(alloc: Global, documents: &Tuples) -> Result<Bytes, Memory> {
+    let mut pieces = Pieces::begin(fault_end(alloc)?);
+    let mut out = Bytes::new(alloc);
+    pieces.push_head(&mut out)?;
+    for k in 0..documents.count() {
+        pieces.push_tuple(alloc, documents.get(k), &mut out)?;
+    }
+    pieces.push_end(alloc, &mut out)?;
+    pieces.push_close(&mut out)?;
+    Ok(out)
+}
+
+const DOCUMENTS_AND_FAULT: &str = "{\"result-set\":{\"docs\":[{\"a\":1},{\"n_i\":-2},{\"EOF\":true,\
+    \"EXCEPTION\":\"DaemonTaken \\\"d\\\"\",\"RESPONSE_TIME\":12}]}}";
+
+fn are_the_whole(alloc: Global) -> Result<bool, Memory> {
+    let documents = two_documents(alloc)?;
+    let end = fault_end(alloc)?;
+    let whole = result_set_text(alloc, &documents, &end);
+    Ok(
+        is(whole, DOCUMENTS_AND_FAULT)
+            && is(in_a_row(alloc, &documents), DOCUMENTS_AND_FAULT)
+            && is(in_a_row(alloc, &Tuples::empty(alloc)), FAULT_ALONE),
+    )
+}
+
+#[test]
+fn pieces_in_a_row_are_the_result_set(rt: HostRuntime) {
+    assert!(rt; are_cut(rt.alloc()) == Ok(true) && are_the_whole(rt.alloc()) == Ok(true));
+}
+
+fn begin_anew(alloc: Global) -> Result<bool, Memory> {
+    let tuple = long_tuple(alloc, "a", 1)?;
+    let mut pieces = Pieces::begin(fault_end(alloc)?);
+    Ok(
+        is(pieces.tuple(alloc, &tuple), "{\"a\":1}")
+            && is(pieces.tuple(alloc, &tuple), ",{\"a\":1}")
+            && is(pieces.head(alloc), HEAD)
+            && is(pieces.tuple(alloc, &tuple), "{\"a\":1}"),
+    )
+}
+
+#[test]
+fn pieces_begin_anew_at_the_head(rt: HostRuntime) {
+    assert!(rt; begin_anew(rt.alloc()) == Ok(true));
 }
 
 const ANSWER: &str = "{\"responseHeader\":{\"status\":0,\"QTime\":18446744073709551615}}";
