@@ -29,6 +29,7 @@ fn update(alloc: Global, collection: &str, commit: &str, body: &str) -> Result<R
         params: commit_params(alloc, commit)?,
         body: body_of(alloc, body)?,
         closes: false,
+        chunks: true,
     })
 }
 
@@ -73,5 +74,6 @@ pub fn action_of(alloc: Global, names: &Names, words: &str) -> Result<Request, M
         params: action_params(alloc, words)?,
         body: Bytes::new(alloc),
         closes: false,
+        chunks: true,
     })
 }
