@@ -1,5 +1,5 @@
 // Expressions, evaluated.
-ghost use Rattle.std.specs.Prelude.{◌≡◌, IfOk, map};
+ghost use Rattle.std.specs.Prelude.{◌≡◌, false, IfOk, map};
 ghost use Rattle.std.specs.List.{AllByRecursion};
 ghost use Rattle.expr_types.specs.Lists.{list_of};
 ghost use Rattle.expr_types.specs.Plain.{IsPlain};
@@ -15,12 +15,32 @@ use shard_versions::Cut;
 use source_streams::Part;
 use std::alloc::Global;
 use std::thread::Threads;
-use stream_engine::{Feeds, drain, merge_lists, open_stream};
+use stream_engine::{Feeds, Stream, drain, merge_lists, open_stream};
 use tuple_values::{Memory, Tuples};
 
-/// The tuples that an expression which only reads gives over a cut, which holds each shard of its
-/// collections. The work of each `parallel` is split among its workers, each in a thread of its own
-/// where one can be started; the gate is told in the worker where it begins and ends.
+/// The stream of the tuples that an expression which only reads gives over a cut, which holds each
+/// shard of its collections. Its searches are made here, and the work of each `parallel` is done
+/// here: it is split among its workers, each in a thread of its own where one can be started; the
+/// gate is told in the worker where it begins and ends. What functions do with their inputs is done
+/// as tuples are read.
+pub fn open_eval<R: Threads + Sync, G: Gate>(
+    rt: &R,
+    alloc: Global,
+    checked: &Checked,
+    cut: &Cut,
+    gate: &G,
+) -> Result<Stream, Memory>
+    requires { IsPlain (tree_of checked.now) }
+    ensures list { IfOk result (λ stream. stream.0
+        ≡ list_of (λ c. documents_of c cut.now) (tree_of checked.now)) }
+    ensures lives { IfOk result (λ stream. stream.2 ≡ false) }
+{
+    let _expr = checked.expr();
+    let feeds = fed_lists(rt, alloc, checked.parallels(), cut, gate)?;
+    open_stream(rt, alloc, checked, cut, feeds, Part::whole())
+}
+
+/// The tuples that an expression which only reads gives over a cut: those of its stream.
 pub fn eval<R: Threads + Sync, G: Gate>(
     rt: &R,
     alloc: Global,
@@ -32,9 +52,7 @@ pub fn eval<R: Threads + Sync, G: Gate>(
     ensures { IfOk result (λ tuples. tuples
         ≡ list_of (λ c. documents_of c cut.now) (tree_of checked.now)) }
 {
-    let _expr = checked.expr();
-    let feeds = fed_lists(rt, alloc, checked.parallels(), cut, gate)?;
-    let stream = open_stream(rt, alloc, checked, cut, feeds, Part::whole())?;
+    let stream = open_eval(rt, alloc, checked, cut, gate)?;
     drain(alloc, stream)
 }
 

@@ -5,4 +5,4 @@
 mod evaluating;
 mod work;
 
-pub use evaluating::eval;
+pub use evaluating::{eval, open_eval};

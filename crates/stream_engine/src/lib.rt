@@ -9,4 +9,4 @@ mod over_inputs;
 mod stream;
 
 pub use opening::{Feeds, merge_lists, open_stream};
-pub use stream::{Stream, drain};
+pub use stream::{Stream, drain, listed};

@@ -196,6 +196,14 @@ fn supply(kernel: &mut AnyKernel, inputs: &mut Vec<Stream>, i: u32) -> Result<()
     Ok(())
 }
 
+/// The stream of a list, which is moved in. Takes no memory.
+pub fn listed(tuples: Tuples) -> Stream
+    ensures list { result.0 ≡ tuples }
+    ensures lives { result.2 ≡ false }
+{
+    Stream::fed(Fed::new(tuples))
+}
+
 /// All tuples that are still to come.
 pub fn drain(alloc: Global, stream: Stream) -> Result<Tuples, Memory>
     ensures { IfOk result (λ tuples. tuples ≡ stream.0) }

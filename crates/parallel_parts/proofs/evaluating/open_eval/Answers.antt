@@ -3,7 +3,7 @@ use Rattle.std.specs.List.{AllByRecursion}
 use Rattle.expr_check.specs.Views.{tree_of}
 use Rattle.part_laws.specs.Splits.{IsSplit}
 use Rattle.part_laws.proofs.SplitLemmas.{all_split}
-use Rattle.parallel_parts.proofs.evaluating.eval.Goals as goal
+use Rattle.parallel_parts.proofs.evaluating.open_eval.Goals as goal
 
 pub fed_lists-requires-after_bounds : goal.fed_lists-requires-after_bounds
 fed_lists-requires-after_bounds g c κs bounds =
