@@ -53,10 +53,11 @@ impl Pieces {
         Pieces { end, later: false }
     }
 
-    /// What stands before the tuples. The tuples begin anew, also where memory is wanting.
+    /// What stands before the tuples, which begin anew.
     pub fn head(&mut self, alloc: Global) -> Result<Bytes, Memory>
         ensures ok { IfOk result (λ bytes. bytes ≡ docs_opening) }
-        ensures anew { self.new ≡ record self.old { later = false } }
+        ensures anew { OnOk result (self.new ≡ record self.old { later = false }) }
+        ensures err { OnErr result (self.new ≡ self.old) }
     {
         let mut out = Bytes::new(alloc);
         self.push_head(&mut out)?;
@@ -89,10 +90,12 @@ impl Pieces {
     /// Adds what `head` gives.
     pub fn push_head(&mut self, out: &mut Bytes) -> Result<(), Memory>
         ensures ok { OnOk result (out.new ≡ out.old ++ docs_opening) }
-        ensures anew { self.new ≡ record self.old { later = false } }
+        ensures anew { OnOk result (self.new ≡ record self.old { later = false }) }
+        ensures err { OnErr result (self.new ≡ self.old) }
     {
+        push_opening(out)?;
         self.later = false;
-        push_opening(out)
+        Ok(())
     }
 
     /// Adds what `tuple` gives.
