@@ -50,6 +50,12 @@ pub begun : {A E : Type 0} (old new : Writer) (p : Course A) (r : Result A E)
     (fault : E) → r ≡ Err fault → Begins old new p → Carried old new p r
 begun old new p r fault e b = subst (Carried old new p) (sym e) b
 
+-- an answer, or want of memory behind it
+pub answered_as : {A E : Type 0} (old new : Writer) (p : Course A) (a : A) (r : Result A E)
+    → Answers old new p a → IfOk r (λ b. b ≡ a) → Carried old new p r
+answered_as old new p a (Ok b) s is = subst (λ x. Answers old new p x) (sym is) s
+answered_as old new p a (Err fault) s is = (ends a, s)
+
 -- a part that was carried out, and then the rest
 pub carried_on : {A B E : Type 0} (old mid new : Writer) (p : Course A) (next : A → Course B) (a : A)
     (r : Result B E) → Answers old mid p a → Carried mid new (next a) r

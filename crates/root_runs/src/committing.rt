@@ -12,10 +12,10 @@ ghost use Rattle.root_runs.specs.Runs.{commit_over, inner_by, reads_then, then_c
 ghost use Rattle.root_runs.specs.Texts.{Told};
 ghost use Rattle.root_runs.specs.Stays.{Stays};
 
-use crate::Done;
 use crate::reading::run_plain;
 use crate::texts::site_told;
 use crate::updating::run_update_of;
+use crate::{Docs, Done};
 use exchange_rules::SiteFault;
 use expr_check::{Checked, CommitRoot, Inner};
 use io_edge::Gate;
@@ -46,7 +46,7 @@ fn refused(alloc: Global, summaries: bool, done: Done, fault: &SiteFault) -> Res
     let docs = if summaries {
         docs
     } else {
-        Tuples::empty(alloc)
+        Docs::listed(Tuples::empty(alloc))
     };
     Ok(Done {
         docs,
@@ -72,14 +72,28 @@ fn commit_round<T: Turns>(
     if done.exception.is_some() {
         return Ok(done);
     }
-    match run_commit(
+    let Done {
+        docs,
+        exception,
+        read,
+        stand,
+    } = done;
+    let docs = docs.gathered(alloc)?;
+    let answer = run_commit(
         alloc,
         site,
         commit.dest,
         commit.batch_size,
-        &done.docs,
+        &docs,
         summaries,
-    ) {
+    );
+    let done = Done {
+        docs: Docs::listed(docs),
+        exception,
+        read,
+        stand,
+    };
+    match answer {
         Ok(()) => Ok(done),
         Err(fault) => refused(alloc, summaries, done, &fault),
     }

@@ -3,6 +3,7 @@ ghost use Rattle.std.specs.Prelude.{◌≡◌, IfOk};
 ghost use Rattle.expr_types.specs.ExprTree.{expr_tree};
 ghost use Rattle.root_runs.specs.Dones.{given, misplaced, passed, stopped, unknown};
 
+use crate::Docs;
 use expr_types::Expr;
 use std::alloc::Global;
 use tuple_values::{Memory, Text, Tuples};
@@ -11,7 +12,7 @@ use tuple_values::{Memory, Text, Tuples};
 /// has one, how many tuples it read to write or to pass them on, and how many of its writes stand.
 #[derive(Drop)]
 pub struct Done {
-    pub docs: Tuples,
+    pub docs: Docs,
     pub exception: Option<Text>,
     pub read: u64,
     pub stand: u64,
@@ -19,7 +20,7 @@ pub struct Done {
 
 impl Done {
     // Tuples that are given.
-    pub(crate) fn given(docs: Tuples) -> Done
+    pub(crate) fn given(docs: Docs) -> Done
         ensures { result ≡ given docs }
     {
         Done {
@@ -36,7 +37,7 @@ impl Done {
     {
         let read = docs.count() as u64;
         Done {
-            docs,
+            docs: Docs::listed(docs),
             exception: None,
             read,
             stand: 0,
@@ -49,7 +50,7 @@ impl Done {
     {
         let text = Text::of(alloc, text)?;
         Ok(Done {
-            docs: Tuples::empty(alloc),
+            docs: Docs::listed(Tuples::empty(alloc)),
             exception: Some(text),
             read: 0,
             stand: 0,
@@ -63,7 +64,7 @@ impl Done {
         let mut text = String::from_str(alloc, "UnknownCollection ")?;
         text.push_str(name.as_str())?;
         Ok(Done {
-            docs: Tuples::empty(alloc),
+            docs: Docs::listed(Tuples::empty(alloc)),
             exception: Some(Text::from_string(text)),
             read: 0,
             stand: 0,
@@ -77,7 +78,7 @@ impl Done {
         let mut text = String::from_str(alloc, "BadPlace ")?;
         text.push_str(expr.function())?;
         Ok(Done {
-            docs: Tuples::empty(alloc),
+            docs: Docs::listed(Tuples::empty(alloc)),
             exception: Some(Text::from_string(text)),
             read: 0,
             stand: 0,

@@ -11,9 +11,9 @@ ghost use Rattle.update_sink.specs.Topics.{key_of, sink_of};
 ghost use Rattle.update_sink.specs.Topics.{IsCheckedDelivery, IsSinkThere, IsThere};
 ghost use Rattle.root_runs.specs.Stays.{Stays};
 
-use crate::Done;
 use crate::texts::topic_told;
 use crate::there::is_there;
+use crate::{Docs, Done};
 use exchange_rules::{SiteFault, TopicFault};
 use expr_check::{Checked, TopicRoot};
 use io_edge::Gate;
@@ -38,7 +38,7 @@ fn delivery_stopped(alloc: Global, topic: &TopicRoot<'_>, stop: TopicFault) -> R
 {
     let text = topic_told(alloc, topic, stop.stand, &stop.fault)?;
     Ok(Done {
-        docs: stop.summaries,
+        docs: Docs::listed(stop.summaries),
         exception: Some(text),
         read: 0,
         stand: stop.stand,
@@ -59,7 +59,7 @@ fn follow_there<T: Turns>(
     ensures stays { Stays T.layout T.home T.free site.old site.new }
 {
     match read_topic(alloc, site, topic, checked) {
-        Ok(read) => Ok(Done::given(read.tuples)),
+        Ok(read) => Ok(Done::given(Docs::listed(read.tuples))),
         Err(fault) => follow_refused(alloc, topic, &fault),
     }
 }
@@ -101,7 +101,7 @@ fn deliver_there<T: Turns, G: Gate>(
 {
     match run_topic(alloc, site, delivery, gate) {
         Ok(run) => Ok(Done {
-            docs: run.summaries,
+            docs: Docs::listed(run.summaries),
             exception: None,
             read: run.read,
             stand: run.stand,

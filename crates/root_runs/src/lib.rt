@@ -2,6 +2,7 @@
 #![tactic(auto)]
 
 mod committing;
+mod docs;
 mod done;
 mod following;
 mod laws;
@@ -12,9 +13,10 @@ mod texts;
 mod there;
 mod updating;
 
+pub use docs::Docs;
 pub use done::Done;
 pub use laws::roots_look_first;
-pub use reading::run_plain;
+pub use reading::{open_plain, run_plain};
 pub use record::take_record_over;
 pub use running::{RootRun, run_deed, run_root};
 pub use texts::full_text;

@@ -7,9 +7,10 @@ ghost use Rattle.root_runs.specs.Lists.{list_over};
 ghost use Rattle.root_runs.specs.Runs.{list_course};
 ghost use Rattle.root_runs.specs.Stays.{Stays};
 
+use crate::Docs;
 use expr_check::Checked;
 use io_edge::Gate;
-use parallel_parts::eval;
+use parallel_parts::open_eval;
 use shard_versions::Cut;
 use std::alloc::Global;
 use std::thread::Threads;
@@ -23,15 +24,36 @@ fn evaluate<R: Threads + Sync, G: Gate>(
     checked: &Checked,
     cut: &Cut,
     gate: &G,
-) -> Result<Tuples, Memory>
+) -> Result<Docs, Memory>
     requires { IsPlain (tree_of checked.now) }
     ensures { IfOk result (λ docs. docs ≡ list_over (tree_of checked.now) cut.now) }
 {
-    eval(rt, alloc, checked, cut, gate)
+    let stream = open_eval(rt, alloc, checked, cut, gate)?;
+    Ok(Docs::streamed(stream))
 }
 
-/// The tuples that an expression which only reads gives at the site, over a cut of its collections.
-/// The writer has no turn afterwards.
+/// The tuples that an expression which only reads gives at the site, over a cut of its collections,
+/// one after another. The writer has no turn afterwards.
+pub fn open_plain<T: Turns, R: Threads + Sync, G: Gate>(
+    rt: &R,
+    alloc: Global,
+    site: &mut T,
+    checked: &Checked,
+    gate: &G,
+) -> Result<Docs, Memory>
+    requires { IsPlain (tree_of checked.now) }
+    ensures course { Carried (T.writer site.old) (T.writer site.new)
+        (list_course (T.layout site.old) (tree_of checked.now)) result }
+    ensures stays { Stays T.layout T.home T.free site.old site.new }
+    ensures free { T.free site.new }
+{
+    match take_cut_over(alloc, site, checked.collections()) {
+        Ok(cut) => evaluate(rt, alloc, checked, &cut, gate),
+        Err(_) => Err(Memory::OutOfMemory),
+    }
+}
+
+/// The same tuples, as a list.
 pub fn run_plain<T: Turns, R: Threads + Sync, G: Gate>(
     rt: &R,
     alloc: Global,
@@ -45,8 +67,6 @@ pub fn run_plain<T: Turns, R: Threads + Sync, G: Gate>(
     ensures stays { Stays T.layout T.home T.free site.old site.new }
     ensures free { T.free site.new }
 {
-    match take_cut_over(alloc, site, checked.collections()) {
-        Ok(cut) => evaluate(rt, alloc, checked, &cut, gate),
-        Err(_) => Err(Memory::OutOfMemory),
-    }
+    let docs = open_plain(rt, alloc, site, checked, gate)?;
+    docs.gathered(alloc)
 }

@@ -13,7 +13,7 @@ ghost use Rattle.root_runs.specs.Stays.{Stays};
 use crate::Done;
 use crate::committing::run_commit_of;
 use crate::following::run_follow;
-use crate::reading::run_plain;
+use crate::reading::open_plain;
 use crate::record::take_record_over;
 use crate::updating::run_update_of;
 use expr_check::{Checked, Root};
@@ -37,7 +37,7 @@ fn give_plain<T: Turns, R: Threads + Sync, G: Gate>(
         (reads_then (T.layout site.old) (tree_of checked.now) (λ docs. ends (given docs))) result }
     ensures stays { Stays T.layout T.home T.free site.old site.new }
 {
-    let docs = run_plain(rt, alloc, site, checked, gate)?;
+    let docs = open_plain(rt, alloc, site, checked, gate)?;
     Ok(Done::given(docs))
 }
 
@@ -94,11 +94,18 @@ pub fn run_root<T: Turns, R: Threads + Sync, G: Gate>(
 {
     let _ = take_record_over(site);
     let done = run_deed(rt, alloc, site, checked, gate)?;
+    let Done {
+        docs,
+        exception,
+        read,
+        ..
+    } = done;
+    let docs = docs.gathered(alloc)?;
     let record = take_record_over(site);
     Ok(RootRun {
-        docs: done.docs,
-        exception: done.exception,
-        read: done.read,
+        docs,
+        exception,
+        read,
         marks: record.marks,
         own: record.own,
     })

@@ -12,11 +12,11 @@ ghost use Rattle.root_runs.specs.Texts.{run_told};
 ghost use Rattle.topic_book.specs.Fitness.{shards_of};
 ghost use Rattle.root_runs.specs.Stays.{Stays};
 
-use crate::Done;
 use crate::following::run_delivery;
 use crate::reading::run_plain;
 use crate::texts::run_told;
 use crate::there::is_there;
+use crate::{Docs, Done};
 use exchange_rules::{Ran, RunFault};
 use expr_check::{Feed, UpdateRoot};
 use io_edge::Gate;
@@ -54,7 +54,7 @@ fn ran_over(alloc: Global, tuples: u64, ran: Ran) -> Result<Done, Memory>
     let exception = fault_told(alloc, ran.stand, ran.fault.as_ref())?;
     let read = read_by(tuples, ran.fault.as_ref());
     Ok(Done {
-        docs: ran.summaries,
+        docs: Docs::listed(ran.summaries),
         exception,
         read,
         stand: ran.stand,

@@ -13,8 +13,10 @@ returns-in-Ok-clause-course g c =
     let new = g.T.Turns.writer c.run_topic.new.site in
     let l = g.T.Turns.layout c.args.site.now in
     let s = sink_of c.args.delivery.now in
-    first_answered w new (run_course l (asked_of s.topic (Some s.dest)) s.dest (batches_over s) run_of)
-    (λ r. ends (delivered (key_of s.topic) r)) _ _ refl c.in-Ok.ensures.course
+    rw c.listed.ensures
+    (first_answered w new
+    (run_course l (asked_of s.topic (Some s.dest)) s.dest (batches_over s) run_of)
+    (λ r. ends (delivered (key_of s.topic) r)) _ _ refl c.in-Ok.ensures.course)
 
 pub returns-in-Err-clause-course : goal.returns-in-Err-clause-course
 returns-in-Err-clause-course g c =

@@ -1,4 +1,4 @@
-use Rattle.std.proofs.Common.{refl, sym, subst}
+use Rattle.std.proofs.Common.{refl, sym, ap, subst, ◌∙◌}
 use Rattle.std.specs.Prelude.{None, Ok, Err}
 use Rattle.exchange_rules.specs.Courses.{ends}
 use Rattle.exchange_rules.specs.Following.{Answers}
@@ -16,7 +16,7 @@ returns-in-Ok-clause-course g c =
     let new = g.T.Turns.writer c.read_topic.new.site in
     let l = g.T.Turns.layout c.args.site.now in
     let p = topic_parts c.args.topic.now in
-    subst (λ d. Answers w new (follow_course l p) d) (sym c.given.ensures)
+    subst (λ d. Answers w new (follow_course l p) d) (sym (c.given.ensures ∙ ap given c.listed.ensures))
     (first_answered w new (read_course l.names (asked_of p None) (read_of p))
     (λ r. ends (followed (key_of p) r)) (Ok c.in-Ok.read) (given c.in-Ok.read.tuples) refl
     c.in-Ok.ensures.course)

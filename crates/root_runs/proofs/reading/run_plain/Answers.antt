@@ -1,33 +1,22 @@
-use Rattle.std.proofs.Common.{[], subst}
-use Rattle.std.specs.Prelude.{Ok, Err}
-use Rattle.exchange_rules.specs.Calls.{Completed}
-use Rattle.exchange_rules.specs.Courses.{ends}
-use Rattle.exchange_rules.specs.Rows.{cut_course}
+use Rattle.std.proofs.lemmas.Result.{err_from_is_err_and}
 use Rattle.expr_check.specs.Views.{tree_of}
-use Rattle.expr_check.specs.Walk.{collections_of}
-use Rattle.root_runs.specs.Lists.{list_over}
-use Rattle.root_runs.proofs.CarriedLemmas.{first_stopped}
-use Rattle.root_runs.proofs.RootLemmas.{list_carried}
+use Rattle.root_runs.specs.Runs.{list_course}
+use Rattle.root_runs.proofs.CarriedLemmas.{answered_as, begun}
 use Rattle.root_runs.proofs.reading.run_plain.Goals as goal
 
-pub returns-in-Ok-clause-course : goal.returns-in-Ok-clause-course
-returns-in-Ok-clause-course g c =
+pub returns-in_err-docs-clause-course : goal.returns-in_err-docs-clause-course
+returns-in_err-docs-clause-course g c =
     let w = g.T.Turns.writer c.args.site.now in
-    let new = g.T.Turns.writer c.take_cut_over.new.site in
+    let new = g.T.Turns.writer c.open_plain.new.site in
     let l = g.T.Turns.layout c.args.site.now in
-    let cut = subst (λ names. Completed w new (cut_course l.names [] names) (Ok c.in-Ok.cut))
-    c.collections.ensures c.in-Ok.ensures.course in
-    list_carried w new l (tree_of c.args.checked.now) c.in-Ok.cut c.evaluate.result cut.reached
-    c.evaluate.ensures
+    let r = err_from_is_err_and c.from_residual.result c.from_residual.ensures.1 in
+    begun w new (list_course l (tree_of c.args.checked.now)) c.from_residual.result r.0 r.1
+    c.in_err-docs.ensures.course
 
 pub returns-clause-course : goal.returns-clause-course
 returns-clause-course g c =
     let w = g.T.Turns.writer c.args.site.now in
-    let new = g.T.Turns.writer c.take_cut_over.new.site in
+    let new = g.T.Turns.writer c.open_plain.new.site in
     let l = g.T.Turns.layout c.args.site.now in
-    let e = tree_of c.args.checked.now in
-    let stopped =
-    subst (λ names. Completed w new (cut_course l.names [] names) (Err c.in-Err.field-0))
-    c.collections.ensures c.in-Err.ensures.course in
-    first_stopped w new (cut_course l.names [] (collections_of e)) (λ cut. ends (list_over e cut))
-    c.in-Err.field-0 stopped
+    answered_as w new (list_course l (tree_of c.args.checked.now)) c.in_ok-docs.docs
+    c.gathered.result c.in_ok-docs.ensures.course c.gathered.ensures
