@@ -91,7 +91,7 @@ module _ (tells : ℕ → Type 0) (l : Layout) (before after : Wire) (old new : 
   over-same : (unfinished : Option Exchange) (e : End)
       → IsOneOver tells l before after old new unfinished e → new.me ≡ old.me
   over-same None e o = ends-same _ _ e o.over.ends
-  over-same (Some x) e o = o.1.exchanged.same
+  over-same (Some x) e o = o.exchanged.same
 
   -- the serving of a message
   pub one-same : (r : OneEnd) → IsOneEnd tells l before after old new r → new.me ≡ old.me

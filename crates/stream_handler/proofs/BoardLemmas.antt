@@ -1,5 +1,5 @@
 -- What a board says to what it is asked, from what its calls say.
-use Rattle.std.proofs.Common.{◌≡◌, ℕ, ◌++◌, Bool, Option, Some, None, refl, sym, ap, subst, ◌∙◌}
+use Rattle.std.proofs.Common.{◌≡◌, ℕ, ◌++◌, Option, Some, None, refl, sym, ap, subst, ◌∙◌}
 use Rattle.std.specs.Prelude.{Result, Ok, Err, IfOk, codes}
 use Rattle.tuple_values.specs.Document.{ByteList}
 use Rattle.tuple_values.specs.declared.memory.Memory.{Memory}
@@ -12,17 +12,20 @@ use Rattle.daemon_board.specs.declared.fault.BoardFault.{BoardFault}
 use Rattle.daemon_board.specs.declared.fault.BoardFault.TheVariants.{DaemonTaken, UnknownDaemon, BoardFull, OutOfMemory}
 use Rattle.stream_handler.specs.Asks.{ask_in, change_ask}
 use Rattle.stream_handler.specs.Boards.{Ask, BoardState, IsAsked, IsListed, IsListing, IsStartTold, Makes, Says, after_change, board_state, change_told, change_word, op_done}
-use Rattle.stream_handler.specs.Choices.{Chooses, IsAnswerTo, IsChangeChosen, IsChosen, IsPrepared, IsStartAsked, IsStartChosen, IsStartPicked, Picks, picked, replied, start_replies, start_told}
-use Rattle.stream_handler.specs.Outcomes.{exception, reply_of}
+use Rattle.stream_handler.specs.Choices.{Chooses, IsAnswerTo, IsChangeChosen, IsChosen, IsPrepared, IsStartAsked, IsStartChosen, IsStartPicked, Picks, picked, start_told, each_start, each_told}
+use Rattle.stream_handler.specs.Outcomes.{due_for, exception}
 use Rattle.stream_handler.specs.Questions.{Asks, IsActionOf, MayTell, question_ask}
+use Rattle.stream_handler.specs.Replies.{due}
 use Rattle.stream_handler.specs.declared.action.Change.{Change}
 use Rattle.stream_handler.specs.declared.action.Change.TheVariants.{Stop, Start, Kill}
+use Rattle.stream_handler.specs.declared.framing.Framing.{Framing}
 use Rattle.stream_handler.specs.declared.outcome.Outcome.{Outcome}
 use Rattle.stream_handler.specs.declared.prepared.Prepared.{Prepared}
 use Rattle.stream_handler.specs.declared.prepared.Prepared.TheVariants as prepared
 use Rattle.stream_handler.specs.declared.prepared.StartTold.{StartTold}
 use Rattle.stream_handler.specs.declared.question.Question.{Question}
 use Rattle.stream_handler.specs.declared.question.Question.TheVariants as question
+use Rattle.stream_handler.specs.declared.reply.Reply.{Reply}
 use Rattle.stream_handler.specs.declared.starting.NewDaemon.{NewDaemon}
 
 -- a board is known by what it tells and by its counts
@@ -163,35 +166,54 @@ chosen_said now (question.Change what id) before after p o is c =
 chosen_said now (question.Start d checked) before after p o is c =
     (tt, start_said now d checked before after o (subst (λ x. Chooses now x before after o) is c))
 
--- the response that was picked is that to an outcome that would have been picked
-pub chosen_reply : (now : ℕ) (closes : Bool) (millis : ℕ) (p : Prepared Outcome)
-    (before after : BoardState) (bytes : ByteList)
-    → Chooses now (replied closes millis p) before after bytes
-    → (o : Outcome) × Chooses now p before after o × (bytes ≡ reply_of closes millis o)
-chosen_reply now closes millis (prepared.Told a) before after bytes c = (a, (c.0, refl), c.1)
-chosen_reply now closes millis (prepared.Change what id made unknown) before after bytes c =
+-- what is picked of things goes with what they are told as
+chosen_as : {A B : Type 0} (f : A → B) (now : ℕ) (p : Prepared A) (before after : BoardState) (x : A)
+    → Chooses now p before after x → Chooses now (each_told f p) before after (f x)
+chosen_as f now (prepared.Told a) before after x c = (c.0, ap f c.1)
+chosen_as f now (prepared.Change what id made unknown) before after x c =
+    record { answer = c.answer; picks = by_answer c.answer c.picks; told = c.told; counted = c.counted }
+  where
+    by_answer : (answer : Result (Unit {0}) BoardFault) → x ≡ picked made unknown answer
+        → f x ≡ picked (f made) (f unknown) answer
+    by_answer (Ok u) is = ap f is
+    by_answer (Err fault) is = ap f is
+chosen_as f now (prepared.Start d checked told) before after x c =
+    record { answer = c.answer; picks = by_answer c.answer c.picks; said = c.said; counted = c.counted }
+  where
+    by_answer : (answer : Result (Unit {0}) BoardFault) → Picks told answer x
+        → Picks (each_start f told) answer (f x)
+    by_answer (Ok u) is = ap f is
+    by_answer (Err (DaemonTaken taken)) is = ap f is
+    by_answer (Err UnknownDaemon) is = absurd is
+    by_answer (Err BoardFull) is = ap f is
+    by_answer (Err OutOfMemory) is = absurd is
+
+-- what was picked of what things are told as is what one that would have been picked is told as
+chosen_of : {A B : Type 0} (f : A → B) (now : ℕ) (p : Prepared A) (before after : BoardState) (y : B)
+    → Chooses now (each_told f p) before after y
+    → (x : A) × Chooses now p before after x × (y ≡ f x)
+chosen_of f now (prepared.Told a) before after y c = (a, (c.0, refl), c.1)
+chosen_of {A} f now (prepared.Change what id made unknown) before after y c =
     by_answer c.answer c.picks c.told c.counted
   where
     by_answer : (answer : Result (Unit {0}) BoardFault)
-        → bytes ≡ picked (reply_of closes millis made) (reply_of closes millis unknown) answer
+        → y ≡ picked (f made) (f unknown) answer
         → WhereTold before.shown after.shown (Makes now what id answer)
         → after.answers ≡ after_change what answer before.answers
-        → (o : Outcome) × Chooses now (prepared.Change what id made unknown) before after o
-        × (bytes ≡ reply_of closes millis o)
+        → (x : A) × Chooses now (prepared.Change what id made unknown) before after x × (y ≡ f x)
     by_answer (Ok u) is told counted =
         (made, record { answer = Ok u; picks = refl; told = told; counted = counted }, is)
     by_answer (Err fault) is told counted =
         (unknown, record { answer = Err fault; picks = refl; told = told; counted = counted }, is)
-chosen_reply now closes millis (prepared.Start d checked told) before after bytes c =
+chosen_of {A} f now (prepared.Start d checked told) before after y c =
     by_answer c.answer c.picks c.said c.counted
   where
     by_answer : (answer : Result (Unit {0}) BoardFault)
-        → Picks (start_replies closes millis told) answer bytes
+        → Picks (each_start f told) answer y
         → WhereTold before.shown after.shown
         (λ b c. Starts d.id (fresh b checked d.interval d.terminate now) answer b c)
         → after.answers ≡ after_start answer before.answers
-        → (o : Outcome) × Chooses now (prepared.Start d checked told) before after o
-        × (bytes ≡ reply_of closes millis o)
+        → (x : A) × Chooses now (prepared.Start d checked told) before after x × (y ≡ f x)
     by_answer (Ok u) is said counted =
         (told.started, record { answer = Ok u; picks = refl; said = said; counted = counted }, is)
     by_answer (Err (DaemonTaken taken)) is said counted =
@@ -202,6 +224,17 @@ chosen_reply now closes millis (prepared.Start d checked told) before after byte
         let answer = Err BoardFull in
         (told.full, record { answer = answer; picks = refl; said = said; counted = counted }, is)
     by_answer (Err OutOfMemory) is said counted = absurd is
+
+-- the response that was picked is that to an outcome that would have been picked
+pub chosen_reply : (now : ℕ) (framing : Framing) (millis : ℕ) (p : Prepared Outcome)
+    (replies : Prepared Reply) (before after : BoardState) (reply : Reply)
+    → each_told due replies ≡ each_told (due_for framing millis) p
+    → Chooses now replies before after reply
+    → (o : Outcome) × Chooses now p before after o × (due reply ≡ due_for framing millis o)
+chosen_reply now framing millis p replies before after reply same c =
+    chosen_of (due_for framing millis) now p before after (due reply)
+    (subst (λ x. Chooses now x before after (due reply)) same
+    (chosen_as due now replies before after reply c))
 
 -- the answer that was picked from the board as it was
 pub answer_picked : (now : ℕ) (q : Question) (old mid new : BoardState) (p : Prepared Outcome)

@@ -10,17 +10,18 @@ use Rattle.exchange_rules.specs.Following.{Writer, cleared}
 use Rattle.exchange_rules.specs.Rows.{Layout}
 use Rattle.exchange_rules.proofs.GrowthLemmas.{grows_same}
 use Rattle.form_request.specs.Streams.{Held}
+use Rattle.tuple_values.specs.declared.names.NameShards.{NameShards}
 use Rattle.stream_handler.specs.Boards.{BoardState}
 use Rattle.stream_handler.specs.Exchanges.{Answer, exchanges_of, replies_of}
-use Rattle.stream_handler.specs.Sessions.{Wire, Came, AreOpen, IsAnsweredInPart, IsBounded, IsOneEnd, IsUnanswered, IsWithin, EndsBy, Exchanged, IsOneServed, IsOver, IsServed, IsSession, most_requests, nothing, record_of, wire}
-use Rattle.stream_handler.specs.Serving.{end_of, exchanges_in}
+use Rattle.stream_handler.specs.Sessions.{Wire, Came, AreOpen, IsAnsweredInPart, IsBounded, IsCutOff, IsOneEnd, IsUnanswered, IsWithin, EndsBy, WireEnds, Exchanged, IsOneServed, IsOver, IsServed, IsSession, most_requests, nothing, record_of, wire}
+use Rattle.stream_handler.specs.Serving.{BreaksOff, end_of, exchanges_in}
 use Rattle.stream_handler.specs.declared.ending.End.{End}
 use Rattle.stream_handler.specs.declared.ending.End.TheVariants as end
 use Rattle.stream_handler.specs.declared.ending.OneEnd.{OneEnd}
 use Rattle.stream_handler.specs.declared.ending.OneEnd.TheVariants.{Served, Last, Over}
 use Rattle.stream_handler.specs.declared.exchange.Exchange.{Exchange}
 use Rattle.stream_handler.proofs.PassLemmas.{passes_none, untold}
-use Rattle.stream_handler.proofs.ServeLemmas.{over_join, served_join}
+use Rattle.stream_handler.proofs.ServeLemmas.{cut_join, over_join, served_join}
 use Rattle.stream_handler.proofs.WireLemmas.{appends_none, came_none, counts_same}
 
 -- nothing was served yet
@@ -52,7 +53,7 @@ pub over_here : (tells : ℕ → Type 0) (l : Layout) (old new : Wire) (w v : Wr
 over_here tells l old new w v answers s = record {
   counts = s.counts;
   ends = inl (record {
-    ends = record {
+    ends = inl (record {
       bytes = s.passed.bytes;
       lost = [];
       told = false;
@@ -60,7 +61,7 @@ over_here tells l old new w v answers s = record {
       passes = s.passed.passes;
       written = subst (λ t. Appends old.written new.written t) (sym (append-nil (replies_of answers)))
           s.written;
-    };
+    });
     exchanged = s.exchanged;
     boards = s.boards;
     recorded = s.recorded;
@@ -137,35 +138,51 @@ over_none tells l old mid new u v w answers exchanges e is p o = record {
       (over_join tells l old mid new u v w answers [] (record_of w) e p o.unclosed o.over);
 }
 
--- a failure of the sink is no close
-pub not_closing : end.WriteFault ≢ end.Closed
-not_closing = λ e. cc
+-- what breaks a reply off is no close
+pub not_closing : (e : End) (failed fails : ℕ) → BreaksOff e failed fails → e ≢ end.Closed
+not_closing end.Ended failed fails c = absurd c
+not_closing end.Closed failed fails c = absurd c
+not_closing (end.Cut held) failed fails c = absurd c
+not_closing (end.Refused status) failed fails c = absurd c
+not_closing end.ReadFault failed fails c = absurd c
+not_closing end.WriteFault failed fails c = λ e. cc
+not_closing end.OutOfMemory failed fails c = λ e. cc
 
 -- a reply in part ends a connection
 pub part_over : (tells : ℕ → Type 0) (l : Layout) (old new : Wire) (w v : Writer) (x : Exchange)
-    → (s : IsAnsweredInPart tells l old new w v x)
-    → IsOver tells l old new w v (s.answer ∷ []) (record_of v) end.WriteFault
-part_over tells l old new w v x s = record {
+    (e : End) → (s : IsAnsweredInPart tells l old new w v x e)
+    → IsOver tells l old new w v (s.answer ∷ []) (record_of v) e
+part_over tells l old new w v x e s = record {
   counts = s.counts;
   ends = inl (record {
-    ends = (s.rose, inr s.cut);
+    ends = by_cause e s.cause;
     exchanged = s.exchanged;
     boards = s.boards;
     recorded = s.recorded;
   });
 }
+  where
+    by_cause : (e : End) → BreaksOff e old.writes new.writes
+        → WireEnds l.names old new (s.answer ∷ []) e
+    by_cause end.Ended c = absurd c
+    by_cause end.Closed c = absurd c
+    by_cause (end.Cut held) c = absurd c
+    by_cause (end.Refused status) c = absurd c
+    by_cause end.ReadFault c = absurd c
+    by_cause end.WriteFault rose = (rose, inr s.cut)
+    by_cause end.OutOfMemory free = inr s.cut
 
 -- it was over, with one more
 abbrev pub over_one : (tells : ℕ → Type 0) (l : Layout) (old mid new : Wire) (u v w : Writer)
-    (answers : List Answer) (exchanges : List Exchange) (x : Exchange)
+    (answers : List Answer) (exchanges : List Exchange) (x : Exchange) (e : End)
     → exchanges ≡ exchanges_of answers
-    → IsServed tells l old mid u v answers → IsAnsweredInPart tells l mid new v w x
-    → IsSession tells l old new u w (exchanges ++ x ∷ []) (record_of w) end.WriteFault
-over_one tells l old mid new u v w answers exchanges x is p s = record {
+    → IsServed tells l old mid u v answers → IsAnsweredInPart tells l mid new v w x e
+    → IsSession tells l old new u w (exchanges ++ x ∷ []) (record_of w) e
+over_one tells l old mid new u v w answers exchanges x e is p s = record {
   answers = answers ++ s.answer ∷ [];
   exchanges_are = exchanges_more exchanges answers s.answer x is s.exchange;
-  over = over_join tells l old mid new u v w answers (s.answer ∷ []) (record_of w) end.WriteFault p
-      not_closing (part_over tells l mid new v w x s);
+  over = over_join tells l old mid new u v w answers (s.answer ∷ []) (record_of w) e p
+      (not_closing e mid.writes new.writes s.cause) (part_over tells l mid new v w x e s);
 }
 
 -- exchanges don't depend on what a writer's record holds
@@ -238,15 +255,27 @@ are_fitting : (answers : List Answer) (a : Answer) → length answers < most_req
 are_fitting answers a less = omega (arith, less, length-append answers (a ∷ []))
 
 -- whatever ends it then
-within_few : (answers : List Answer) (e : End) → length answers < most_requests → AreOpen answers
-    → IsWithin answers e
-within_few answers end.Ended less opens = (less, opens)
-within_few answers end.Closed less opens = omega (arith, less)
-within_few answers (end.Cut held) less opens = (less, opens)
-within_few answers (end.Refused status) less opens = (less, opens)
-within_few answers end.ReadFault less opens = (less, opens)
-within_few answers end.WriteFault less opens = omega (arith, less)
-within_few answers end.OutOfMemory less opens = (less, opens)
+within_few : (names : List NameShards) (old new : Wire) (answers : List Answer) (e : End)
+    → length answers < most_requests → AreOpen answers → IsWithin names old new answers e
+within_few names old new answers end.Ended less opens = (less, opens)
+within_few names old new answers end.Closed less opens = omega (arith, less)
+within_few names old new answers (end.Cut held) less opens = (less, opens)
+within_few names old new answers (end.Refused status) less opens = (less, opens)
+within_few names old new answers end.ReadFault less opens = (less, opens)
+within_few names old new answers end.WriteFault less opens = omega (arith, less)
+within_few names old new answers end.OutOfMemory less opens = inl (less, opens)
+
+-- a reply that is broken off ends a connection with as many requests as it may have
+within_cut : (names : List NameShards) (old new : Wire) (answers : List Answer) (e : End)
+    (failed fails : ℕ) → BreaksOff e failed fails → length answers ≤ most_requests
+    → IsCutOff names old new answers → IsWithin names old new answers e
+within_cut names old new answers end.Ended failed fails c fits cut = absurd c
+within_cut names old new answers end.Closed failed fails c fits cut = absurd c
+within_cut names old new answers (end.Cut held) failed fails c fits cut = absurd c
+within_cut names old new answers (end.Refused status) failed fails c fits cut = absurd c
+within_cut names old new answers end.ReadFault failed fails c fits cut = absurd c
+within_cut names old new answers end.WriteFault failed fails c fits cut = fits
+within_cut names old new answers end.OutOfMemory failed fails c fits cut = inr (cut, fits)
 
 -- one more that doesn't close
 open_more : (answers : List Answer) (a : Answer) → AreOpen answers
@@ -302,7 +331,8 @@ ends_of_memory {tells} {l} {m} {old} {new} {w} {v} p few same = record {
     exchanges_are = same ∙ p.exchanges_are;
     over = over_here tells l old new w v p.answers p.served;
   };
-  within = within_few p.answers end.OutOfMemory (are_few _ _ p.counted few) p.are_open;
+  within = within_few l.names old new p.answers end.OutOfMemory (are_few _ _ p.counted few)
+      p.are_open;
 }
 
 -- with as many as it may have
@@ -342,13 +372,14 @@ module _ (tells : ℕ → Type 0) (l m : Layout) (old mid new : Wire) (u v w : W
   led (Over e None) s =
       rw append-nil (record {
         session = over_none tells l old mid new u v w p.answers xs e p.exchanges_are p.served s;
-        within = within_few p.answers e few p.are_open;
+        within = within_few l.names old new p.answers e few p.are_open;
       })
-  led (Over e (Some x)) s =
-      rw s.0 (record {
-        session = over_one tells l old mid new u v w p.answers xs x p.exchanges_are p.served s.1;
-        within = are_fitting p.answers s.1.answer few;
-      })
+  led (Over e (Some x)) s = record {
+    session = over_one tells l old mid new u v w p.answers xs x e p.exchanges_are p.served s;
+    within = within_cut l.names old new (p.answers ++ s.answer ∷ []) e mid.writes new.writes s.cause
+        (are_fitting p.answers s.answer few)
+        (cut_join l.names old mid new p.answers (s.answer ∷ []) p.served.passed p.served.written s.cut);
+  }
 
 -- one more message was served: the connection goes on, or is over
 pub leads_to : {tells : ℕ → Type 0} {l m k : Layout} {old mid : Wire} (new : Wire) {u v : Writer}

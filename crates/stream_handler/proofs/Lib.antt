@@ -7,6 +7,8 @@ pub mod PassLemmas
 pub mod WireLemmas
 pub mod WaitLemmas
 pub mod SoundLemmas
+pub mod ChunkLemmas
+pub mod ReplyLemmas
 pub mod ServeLemmas
 pub mod OneLemmas
 pub mod ConnectionLemmas

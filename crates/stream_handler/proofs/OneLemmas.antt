@@ -7,9 +7,9 @@ use Rattle.exchange_rules.specs.Rows.{Layout}
 use Rattle.form_request.specs.declared.request.Request.{Request}
 use Rattle.stream_handler.specs.Boards.{BoardState}
 use Rattle.stream_handler.specs.Exchanges.{Answer, BoardsAlong, reply_to}
-use Rattle.stream_handler.specs.Outcomes.{reply_of}
+use Rattle.stream_handler.specs.Outcomes.{framing_of, reply_of}
 use Rattle.stream_handler.specs.Passing.{said}
-use Rattle.stream_handler.specs.Serving.{IsCarriedOut, IsLeftOff, IsReplied, IsWritten, IsWrittenInPart, sunk}
+use Rattle.stream_handler.specs.Serving.{BreaksOff, IsCarriedOut, IsLeftOff, IsReplied, IsWritten, IsWrittenInPart, sunk}
 use Rattle.stream_handler.specs.Sessions.{Wire, wire, Counts, IsAnsweredInPart, IsOneEnd, IsOneServed, IsOver, IsUnanswered, Passed, WireEnds, most_requests, nothing, record_of}
 use Rattle.stream_handler.specs.Waiting.{IsHalted, IsWhole}
 use Rattle.stream_handler.specs.declared.ending.End.{End}
@@ -92,7 +92,7 @@ module _ (tells : ℕ → Type 0) (l : Layout) (start mid : Wire) (w v : Writer)
 
   -- what is written of a message that is answered
   one_reply : (time : ℕ) (x : Exchange) (o : Outcome)
-      → said whole.asks ++ reply_of request.closes x.millis o ≡ reply_to (answer_of time x o) ++ []
+      → said whole.asks ++ reply_of (framing_of request) x.millis o ≡ reply_to (answer_of time x o) ++ []
   one_reply time x o = sym (append-nil (reply_to (answer_of time x o)))
 
   left_nothing : (x : Exchange) (o : Outcome)
@@ -121,7 +121,7 @@ module _ (tells : ℕ → Type 0) (l : Layout) (start mid : Wire) (w v : Writer)
       passed = passed;
       written = subst (λ t. Appends start.written written t) (one_reply s.carried.now x s.outcome)
           (appends_join start.written mid.written written (said whole.asks)
-          (reply_of request.closes x.millis s.outcome) whole.written s.written);
+          (reply_of (framing_of request) x.millis s.outcome) whole.written s.written);
       exchanged = exchanged_one tells l w v start.board board
           (record { asks = whole.asks; request = request }) x s.outcome
           (carried x s.outcome s.carried);
@@ -172,14 +172,25 @@ module _ (tells : ℕ → Type 0) (l : Layout) (start mid : Wire) (w v : Writer)
     );
   }
 
+  -- why it is broken off
+  breaks : (e : End) → BreaksOff e mid.writes writes → BreaksOff e start.writes writes
+  breaks end.Ended c = absurd c
+  breaks end.Closed c = absurd c
+  breaks (end.Cut held) c = absurd c
+  breaks (end.Refused status) c = absurd c
+  breaks end.ReadFault c = absurd c
+  breaks end.WriteFault rose =
+      rose_since start.writes mid.writes writes whole.counts.writes rose
+  breaks end.OutOfMemory free = free
+
   -- the reply was written in part
-  in_part : (x : Exchange)
+  in_part : (x : Exchange) (e : End)
       → IsWrittenInPart tells l (cleared w) v start.board board request
-      (sunk mid.written written mid.writes writes) x
-      → IsAnsweredInPart tells l start now w v x
-  in_part x s = record {
+      (sunk mid.written written mid.writes writes) x e
+      → IsAnsweredInPart tells l start now w v x e
+  in_part x e s = record {
     counts = since s.stays;
-    rose = rose_since start.writes mid.writes writes whole.counts.writes s.rose;
+    cause = breaks e s.cause;
     answer = answer_of s.carried.now x s.outcome;
     exchange = refl;
     cut = record {
@@ -220,7 +231,7 @@ module _ (tells : ℕ → Type 0) (l : Layout) (start mid : Wire) (w v : Writer)
   one_end (Over e None) s =
       subst (λ e. IsUnanswered tells l start now w v e) (sym s.0)
       (record { unclosed = λ x. cc; over = left_off s.1 })
-  one_end (Over e (Some x)) s = (s.0, in_part x s.1)
+  one_end (Over e (Some x)) s = in_part x e s
 
 -- the same, where names, layout and writer are what the site says of them
 pub one_end_of : (tells : ℕ → Type 0) (l m : Layout) (names : List NameShards) (start mid : Wire)

@@ -190,7 +190,7 @@ module _ (names : List NameShards) (old mid new : Wire) (xs ys : List Answer)
     written = written_more ys (said q.told) q.written;
   }
 
-  cut_join : IsCutOff names mid new ys → IsCutOff names old new (xs ++ ys)
+  pub cut_join : IsCutOff names mid new ys → IsCutOff names old new (xs ++ ys)
   cut_join q = record {
     before = xs ++ q.before;
     last = q.last;
@@ -226,7 +226,8 @@ module _ (names : List NameShards) (old mid new : Wire) (xs ys : List Answer)
       (rose_since old.reads mid.reads new.reads c.reads q.0, (q.1.0, unfinished_join q.1.0 q.1.1))
   wire_join end.WriteFault c other q =
       (rose_since old.writes mid.writes new.writes c.writes q.0, broken_join q.1)
-  wire_join end.OutOfMemory c other q = lost_join q
+  wire_join end.OutOfMemory c other (inl q) = inl (lost_join q)
+  wire_join end.OutOfMemory c other (inr q) = inr (cut_join q)
 
 -- some were served and then others
 pub served_join : (tells : ℕ → Type 0) (l : Layout) (old mid new : Wire) (u v w : Writer)

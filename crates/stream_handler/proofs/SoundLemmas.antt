@@ -33,14 +33,15 @@ use Rattle.expr_check.specs.declared.roots.Roots.TheVariants.{All}
 use Rattle.expr_text.specs.Reading.{expression_of}
 use Rattle.root_runs.specs.Runs.{list_course, root_course}
 use Rattle.root_runs.proofs.RootLemmas.{roots_first}
-use Rattle.stream_handler.specs.Outcomes.{reply_of}
+use Rattle.stream_handler.specs.Outcomes.{due_for, framing_of}
 use Rattle.stream_handler.specs.Refusals.{refusal}
-use Rattle.stream_handler.specs.Replies.{reply_text}
+use Rattle.stream_handler.specs.Replies.{due}
 use Rattle.stream_handler.specs.Requests.{RequestsLookFirst, acted_course, action_course, deed_course, handled, is_true, expression_course, outcome_of, plain_course, request_course, root_or_told, stream_course, update_course}
 use Rattle.stream_handler.specs.declared.exchange.Answered.{Answered}
 use Rattle.stream_handler.specs.declared.exchange.Exchange.{Exchange}
 use Rattle.stream_handler.specs.declared.outcome.Outcome.{Outcome}
 use Rattle.stream_handler.specs.declared.outcome.Outcome.TheVariants.{ResultSet}
+use Rattle.stream_handler.specs.declared.reply.Reply.{Reply}
 use Rattle.stream_handler.specs.declared.starting.NewDaemon.{NewDaemon}
 
 -- an expression that only reads looks first
@@ -162,13 +163,13 @@ sound_counted tells l me seen had end (a ∷ answers) c i =
 -- a request that was carried out with a record that began empty is answered, and its exchange is
 -- sound
 pub answered_of : (tells : ℕ → Type 0) {l m : Layout} {w u end new : Writer}
-    {before after : BoardState} {r : Request} {a : Answered} (bytes : ByteList) (millis : ℕ)
-    → u ≡ cleared w → m ≡ l → (t : IsTimed tells m u end before after r bytes millis)
+    {before after : BoardState} {r : Request} {a : Answered} (reply : Reply) (millis : ℕ)
+    → u ≡ cleared w → m ≡ l → (t : IsTimed tells m u end before after r reply millis)
     → new ≡ cleared end → a.exchange.marks ≡ end.marks → a.exchange.own ≡ end.own
-    → reply_text a.reply ≡ bytes → a.exchange.millis ≡ millis
+    → a.reply ≡ reply → a.exchange.millis ≡ millis
     → IsAnswered tells l w new before after r a
-answered_of tells {l} {m} {w} {u} {end} {new} {before} {after} {r} {a} bytes millis fresh same t
-    rest marks own reply time =
+answered_of tells {l} {m} {w} {u} {end} {new} {before} {after} {r} {a} reply millis fresh same t
+    rest marks own is time =
     let o = t.outcome in
     let lasted : Took tells t.now a.exchange.millis =
     subst (Took tells t.now) (sym time) t.lasted in
@@ -185,7 +186,7 @@ answered_of tells {l} {m} {w} {u} {end} {new} {before} {after} {r} {a} bytes mil
       rest = rest;
       marks = marks;
       own = own;
-      reply = reply ∙ t.reply ∙ ap (λ (n : ℕ). reply_of r.closes n o) (sym time);
+      reply = ap due is ∙ t.reply ∙ ap (λ (n : ℕ). due_for (framing_of r) n o) (sym time);
       lasted = lasted;
       sound = sound_of tells t.now l w.me end.seen (counts w.seen) r a.exchange o (counts end.seen)
           k.accesses (marks ∙ k.marks) (own ∙ k.own) t.began lasted k.followed;

@@ -87,7 +87,7 @@ module _ (names : List NameShards) (start old : Wire) (told : Bool) (w : IsWaiti
       → Came old.left new.left lost → new.written ≡ old.written → IsHalted names start new end.OutOfMemory
   halted_memory new lost counts held came written = record {
     counts = counts_join start old new w.counts counts;
-    ends = lost_here new lost held came written;
+    ends = inl (lost_here new lost held came written);
   }
 
   module _ (answer : Step100) (held : Held) (t : IsTurned names told old.held answer held) where
@@ -171,14 +171,14 @@ turned_refused names start old told w status held t written writes e says counts
         written = appends_join start.written old.written written [] says.0 before says.3;
       }),
     )
-    by_end end.OutOfMemory says counts = record {
+    by_end end.OutOfMemory says counts = inl (record {
       bytes = p.bytes;
       lost = [];
       told = told;
       came = subst (λ b. Came start.left old.left b) (sym (append-nil p.bytes)) p.came;
       passes = p.passes;
       written = appends_still start.written old.written written (said told) w.written says;
-    }
+    })
 
 -- `100 Continue` is asked for
 pub turned_continue : (names : List NameShards) (start old : Wire) (told : Bool)

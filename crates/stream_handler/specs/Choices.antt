@@ -1,5 +1,5 @@
 -- What a question may be answered, all of which is made before the board is asked (own).
-use Rattle.std.specs.Prelude.{ℕ, ◌≡◌, ◌++◌, Bool, Result, Ok, Err, codes}
+use Rattle.std.specs.Prelude.{ℕ, ◌≡◌, ◌++◌, Result, Ok, Err, codes}
 use Rattle.tuple_values.specs.Document.{ByteList}
 use Rattle.tuple_values.specs.declared.memory.Memory.{Memory}
 use Rattle.expr_check.specs.declared.checked.Checked.{Checked}
@@ -9,7 +9,7 @@ use Rattle.daemon_board.specs.Daemons.{fresh}
 use Rattle.daemon_board.specs.declared.fault.BoardFault.{BoardFault}
 use Rattle.daemon_board.specs.declared.fault.BoardFault.TheVariants.{DaemonTaken, UnknownDaemon, BoardFull, OutOfMemory}
 use Rattle.stream_handler.specs.Boards.{BoardState, IsListed, Makes, Says, after_change, change_word, op_done}
-use Rattle.stream_handler.specs.Outcomes.{exception, reply_of}
+use Rattle.stream_handler.specs.Outcomes.{exception}
 use Rattle.stream_handler.specs.Questions.{MayTell, question_ask}
 use Rattle.stream_handler.specs.declared.action.Change.{Change}
 use Rattle.stream_handler.specs.declared.outcome.Outcome.{Outcome}
@@ -45,22 +45,17 @@ IsPrepared question.List b p = (o : Outcome) × IsListed b b o × (p ≡ prepare
 IsPrepared (question.Change what id) b p = p ≡ prepared_change what id
 IsPrepared (question.Start d checked) b p = p ≡ prepared_start d checked
 
--- the responses that tell a start, after so many milliseconds
-abbrev pub start_replies : Bool → ℕ → StartTold Outcome → StartTold ByteList
-start_replies closes millis told =
-    record {
-      started = reply_of closes millis told.started;
-      taken = reply_of closes millis told.taken;
-      full = reply_of closes millis told.full;
-    }
+-- the same of each thing that a start may be told
+abbrev pub each_start : {A B : Type 0} → (A → B) → StartTold A → StartTold B
+each_start f told =
+    record { started = f told.started; taken = f told.taken; full = f told.full }
 
--- the response to each answer, after so many milliseconds
-abbrev pub replied : Bool → ℕ → Prepared Outcome → Prepared ByteList
-replied closes millis (prepared.Told o) = prepared.Told (reply_of closes millis o)
-replied closes millis (prepared.Change what id made unknown) =
-    prepared.Change what id (reply_of closes millis made) (reply_of closes millis unknown)
-replied closes millis (prepared.Start d checked told) =
-    prepared.Start d checked (start_replies closes millis told)
+-- the same of each thing that may be told
+abbrev pub each_told : {A B : Type 0} → (A → B) → Prepared A → Prepared B
+each_told f (prepared.Told a) = prepared.Told (f a)
+each_told f (prepared.Change what id made unknown) =
+    prepared.Change what id (f made) (f unknown)
+each_told f (prepared.Start d checked told) = prepared.Start d checked (each_start f told)
 
 -- what is told of the answer to a change
 abbrev pub picked : {A : Type 0} → A → A → Result (Unit {0}) BoardFault → A

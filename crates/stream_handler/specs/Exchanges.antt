@@ -16,13 +16,14 @@ use Rattle.form_request.specs.declared.request.Request.{Request}
 use Rattle.server_edge.specs.Clocks.{Took}
 use Rattle.stream_handler.specs.Asks.{ask_of}
 use Rattle.stream_handler.specs.Boards.{BoardState, Says}
-use Rattle.stream_handler.specs.Outcomes.{reply_of}
+use Rattle.stream_handler.specs.Outcomes.{due_for, framing_of, reply_of}
 use Rattle.stream_handler.specs.Passing.{said}
-use Rattle.stream_handler.specs.Replies.{reply_text}
+use Rattle.stream_handler.specs.Replies.{due}
 use Rattle.stream_handler.specs.Requests.{request_course}
 use Rattle.stream_handler.specs.declared.exchange.Answered.{Answered}
 use Rattle.stream_handler.specs.declared.exchange.Exchange.{Exchange}
 use Rattle.stream_handler.specs.declared.outcome.Outcome.{Outcome}
+use Rattle.stream_handler.specs.declared.reply.Reply.{Reply}
 
 -- the exchange is sound for the course and this answer: over what the writer has seen, its marks
 -- and own marks are those of accesses that follow the whole course, from these counts to those.
@@ -70,7 +71,8 @@ BoardsAlong tells l old (a ∷ answers) new =
 -- what is written of a message: `100 Continue` where it asks for it, and the reply
 abbrev pub reply_to : Answer → ByteList
 reply_to a =
-    said a.message.asks ++ reply_of a.message.request.closes a.exchange.millis a.outcome
+    said a.message.asks
+    ++ reply_of (framing_of a.message.request) a.exchange.millis a.outcome
 
 abbrev pub messages_of : List Answer → List Message
 messages_of answers = map (λ a. a.message) answers
@@ -105,7 +107,7 @@ pub record IsAnswered (tells : ℕ → Type 0) (l : Layout) (old new : Writer)
   pub rest : new ≡ cleared end
   pub marks : a.exchange.marks ≡ end.marks
   pub own : a.exchange.own ≡ end.own
-  pub reply : reply_text a.reply ≡ reply_of request.closes a.exchange.millis outcome
+  pub reply : due a.reply ≡ due_for (framing_of request) a.exchange.millis outcome
   pub lasted : Took tells now a.exchange.millis
   pub sound : IsSound tells now old.me end.seen (counts old.seen) (request_course l outcome request)
       a.exchange outcome (counts end.seen)
@@ -113,19 +115,19 @@ pub record IsAnswered (tells : ℕ → Type 0) (l : Layout) (old new : Writer)
 -- a request was carried out, and this is the response so many milliseconds after the time at which
 -- the board was asked, which a clock told
 pub record IsTimed (tells : ℕ → Type 0) (l : Layout) (old new : Writer) (before after : BoardState)
-    (r : Request) (bytes : ByteList) (millis : ℕ) : Type 0 where
+    (r : Request) (made : Reply) (millis : ℕ) : Type 0 where
   pub outcome : Outcome
   pub now : ℕ
   pub began : tells now
   pub carried : Answers old new (request_course l outcome r) outcome
   pub board : Says now (ask_of l.names r) before after outcome
-  pub reply : bytes ≡ reply_of r.closes millis outcome
+  pub reply : due made ≡ due_for (framing_of r) millis outcome
   pub lasted : Took tells now millis
 
 -- the same; where memory was wanting, a beginning of its course was followed, and the board is as
 -- it was
 abbrev pub IsResponded : (ℕ → Type 0) → Layout → Writer → Writer → BoardState → BoardState → Request
-    → Result (ByteList × ℕ) Memory → Type 0
+    → Result (Reply × ℕ) Memory → Type 0
 IsResponded tells l old new before after r (Ok made) =
     IsTimed tells l old new before after r made.0 made.1
 IsResponded tells l old new before after r (Err memory) =

@@ -1,6 +1,8 @@
 pub use Rattle.root_runs.specs.Stays
 pub mod Responses
+pub mod Chunks
 pub mod Outcomes
+pub mod Chunkings
 pub mod Refusals
 pub mod Boards
 pub mod Asks
@@ -10,6 +12,6 @@ pub mod Choices
 pub mod Passing
 pub mod Replies
 pub mod Exchanges
+pub mod Serving
 pub mod Sessions
 pub mod Waiting
-pub mod Serving

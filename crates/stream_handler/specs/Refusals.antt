@@ -2,7 +2,7 @@
 -- section 15).
 use Rattle.std.specs.Prelude.{ℕ, ◌==◌, true, codes, if◌then◌else◌}
 use Rattle.tuple_values.specs.Document.{ByteList}
-use Rattle.stream_handler.specs.Outcomes.{reply_of}
+use Rattle.stream_handler.specs.Outcomes.{whole_reply}
 use Rattle.stream_handler.specs.declared.outcome.Outcome.{Outcome}
 use Rattle.stream_handler.specs.declared.outcome.Outcome.TheVariants.{Refused}
 
@@ -23,4 +23,4 @@ refusal status = Refused status (refusal_text status)
 
 -- the response to a message that is refused: the connection closes with it
 unfoldable pub refusal_reply : ℕ → ByteList
-refusal_reply status = reply_of true 0 (refusal status)
+refusal_reply status = whole_reply true 0 (refusal status)

@@ -1,4 +1,4 @@
--- The bytes of an HTTP response (RFC 9112, sections 4 and 6; which fields stand in it is own).
+-- The bytes of an HTTP response (RFC 9112, sections 4, 6 and 7.1; which fields stand in it is own).
 use Rattle.std.specs.Prelude.{ℕ, ◌++◌, [], Bool, true, false, ◌||◌, nat_le, nat_lt, length}
 use Rattle.std.specs.Prelude.{unwrap_or, codes, if◌then◌else◌}
 use Rattle.std.specs.Fmt.{decimal}
@@ -29,3 +29,13 @@ fields size closes =
 -- a response with this status and body; the connection may close with it
 abbrev pub response : ℕ → Bool → ByteList → ByteList
 response status closes body = status_line status ++ fields (length body) closes ++ body
+
+-- the same before a body that goes in chunks
+abbrev pub chunked_fields : Bool → ByteList
+chunked_fields closes =
+    codes "Content-Type: application/json\r\nTransfer-Encoding: chunked\r\n" ++ closing closes
+    ++ codes "\r\n"
+
+-- the head of a response whose body goes in chunks
+abbrev pub chunked_head : Bool → ByteList
+chunked_head closes = status_line 200 ++ chunked_fields closes

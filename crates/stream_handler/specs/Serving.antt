@@ -8,7 +8,7 @@ use Rattle.server_edge.specs.Clocks.{Took}
 use Rattle.stream_handler.specs.Asks.{ask_of}
 use Rattle.stream_handler.specs.Boards.{BoardState, Says}
 use Rattle.stream_handler.specs.Exchanges.{IsBroken}
-use Rattle.stream_handler.specs.Outcomes.{reply_of}
+use Rattle.stream_handler.specs.Outcomes.{framing_of, reply_of}
 use Rattle.stream_handler.specs.Requests.{request_course}
 use Rattle.stream_handler.specs.declared.ending.End.{End}
 use Rattle.stream_handler.specs.declared.ending.End.TheVariants as end
@@ -49,16 +49,28 @@ pub record IsWritten (tells : ℕ → Type 0) (l : Layout) (old new : Writer)
   pub stays : s.failed ≤ s.fails
   pub outcome : Outcome
   pub carried : IsCarriedOut tells l old new before after request x outcome
-  pub written : Appends s.before s.after (reply_of request.closes x.millis outcome)
+  pub written : Appends s.before s.after (reply_of (framing_of request) x.millis outcome)
+
+-- why a reply isn't written whole: the sink failed, and its count rose; or memory was wanting as it
+-- was made
+abbrev pub BreaksOff : End → ℕ → ℕ → Type 0
+BreaksOff end.Ended failed fails = ⊥
+BreaksOff end.Closed failed fails = ⊥
+BreaksOff (end.Cut held) failed fails = ⊥
+BreaksOff (end.Refused status) failed fails = ⊥
+BreaksOff end.ReadFault failed fails = ⊥
+BreaksOff end.WriteFault failed fails = Rose failed fails
+BreaksOff end.OutOfMemory failed fails = Unit {0}
 
 -- the same, with a part of its reply
 pub record IsWrittenInPart (tells : ℕ → Type 0) (l : Layout) (old new : Writer)
-    (before after : BoardState) (request : Request) (s : Sunk) (x : Exchange) : Type 0 where
+    (before after : BoardState) (request : Request) (s : Sunk) (x : Exchange) (e : End)
+    : Type 0 where
   pub stays : s.failed ≤ s.fails
-  pub rose : Rose s.failed s.fails
+  pub cause : BreaksOff e s.failed s.fails
   pub outcome : Outcome
   pub carried : IsCarriedOut tells l old new before after request x outcome
-  pub written : AppendsPrefix s.before s.after (reply_of request.closes x.millis outcome)
+  pub written : AppendsPrefix s.before s.after (reply_of (framing_of request) x.millis outcome)
 
 -- a beginning of it was carried out, and nothing is written
 pub record IsLeftOff (l : Layout) (old new : Writer) (before after : BoardState)
@@ -77,7 +89,7 @@ IsReplied tells l old new before after request s (Last x) =
 IsReplied tells l old new before after request s (Over e None) =
     (e ≡ end.OutOfMemory) × IsLeftOff l old new before after request s
 IsReplied tells l old new before after request s (Over e (Some x)) =
-    (e ≡ end.WriteFault) × IsWrittenInPart tells l old new before after request s x
+    IsWrittenInPart tells l old new before after request s x e
 
 -- the exchange of one message that was served, if there is one
 abbrev pub exchanges_in : OneEnd → List Exchange

@@ -21,6 +21,7 @@ use Rattle.stream_handler.specs.Exchanges.{Answer, AreSound, BoardsAlong, messag
 use Rattle.stream_handler.specs.Passing.{Passes, front_text, said}
 use Rattle.stream_handler.specs.Refusals.{refusal_reply}
 use Rattle.stream_handler.specs.Requests.{request_course}
+use Rattle.stream_handler.specs.Serving.{BreaksOff}
 use Rattle.stream_handler.specs.declared.ending.End.{End}
 use Rattle.stream_handler.specs.declared.ending.End.TheVariants as end
 use Rattle.stream_handler.specs.declared.ending.OneEnd.{OneEnd}
@@ -196,7 +197,8 @@ WireEnds names old new answers end.ReadFault =
 WireEnds names old new answers end.WriteFault =
     Rose old.writes new.writes
     × (IsStuck names old new answers ⊎ IsCutOff names old new answers)
-WireEnds names old new answers end.OutOfMemory = IsLost names old new answers
+WireEnds names old new answers end.OutOfMemory =
+    IsLost names old new answers ⊎ IsCutOff names old new answers
 
 -- it ended so, and the writer and the board did what the exchanges say and no more
 pub record IsSettled (tells : ℕ → Type 0) (l : Layout) (old new : Wire) (w v : Writer)
@@ -236,9 +238,9 @@ pub record IsUnanswered (tells : ℕ → Type 0) (l : Layout) (old new : Wire) (
 
 -- one was answered, and its reply is written in part
 pub record IsAnsweredInPart (tells : ℕ → Type 0) (l : Layout) (old new : Wire) (w v : Writer)
-    (x : Exchange) : Type 0 where
+    (x : Exchange) (e : End) : Type 0 where
   pub counts : Counts old new
-  pub rose : Rose old.writes new.writes
+  pub cause : BreaksOff e old.writes new.writes
   pub answer : Answer
   pub exchange : answer.exchange ≡ x
   pub cut : IsCutOff l.names old new (answer ∷ [])
@@ -250,8 +252,7 @@ pub record IsAnsweredInPart (tells : ℕ → Type 0) (l : Layout) (old new : Wir
 abbrev pub IsOneOver : (ℕ → Type 0) → Layout → Wire → Wire → Writer → Writer → Option Exchange → End
     → Type 0
 IsOneOver tells l old new w v None e = IsUnanswered tells l old new w v e
-IsOneOver tells l old new w v (Some x) e =
-    (e ≡ end.WriteFault) × IsAnsweredInPart tells l old new w v x
+IsOneOver tells l old new w v (Some x) e = IsAnsweredInPart tells l old new w v x e
 
 -- how one message of a connection was served
 abbrev pub IsOneEnd : (ℕ → Type 0) → Layout → Wire → Wire → Writer → Writer → OneEnd → Type 0
@@ -270,22 +271,27 @@ pub record IsSession (tells : ℕ → Type 0) (l : Layout) (old new : Wire) (w v
 abbrev pub AreOpen : List Answer → Type 0
 AreOpen answers = AllByRecursion (λ a. a.message.request.closes ≡ false) answers
 
+-- a connection could have had more requests
+abbrev pub IsOpen : List Answer → Type 0
+IsOpen answers = (length answers < most_requests) × AreOpen answers
+
 -- a connection has so many requests at most, and where it isn't closed, and its last reply is whole, it
 -- could have had more
-abbrev pub IsWithin : List Answer → End → Type 0
-IsWithin answers end.Ended = (length answers < most_requests) × AreOpen answers
-IsWithin answers end.Closed = length answers ≤ most_requests
-IsWithin answers (end.Cut held) = (length answers < most_requests) × AreOpen answers
-IsWithin answers (end.Refused status) = (length answers < most_requests) × AreOpen answers
-IsWithin answers end.ReadFault = (length answers < most_requests) × AreOpen answers
-IsWithin answers end.WriteFault = length answers ≤ most_requests
-IsWithin answers end.OutOfMemory = (length answers < most_requests) × AreOpen answers
+abbrev pub IsWithin : List NameShards → Wire → Wire → List Answer → End → Type 0
+IsWithin names old new answers end.Ended = IsOpen answers
+IsWithin names old new answers end.Closed = length answers ≤ most_requests
+IsWithin names old new answers (end.Cut held) = IsOpen answers
+IsWithin names old new answers (end.Refused status) = IsOpen answers
+IsWithin names old new answers end.ReadFault = IsOpen answers
+IsWithin names old new answers end.WriteFault = length answers ≤ most_requests
+IsWithin names old new answers end.OutOfMemory =
+    IsOpen answers ⊎ (IsCutOff names old new answers × (length answers ≤ most_requests))
 
 -- a connection was served to its end, with as many requests as it may have
 pub record IsBounded (tells : ℕ → Type 0) (l : Layout) (old new : Wire) (w v : Writer)
     (exchanges : List Exchange) (rest : Record) (e : End) : Type 0 where
   pub session : IsSession tells l old new w v exchanges rest e
-  pub within : IsWithin session.answers e
+  pub within : IsWithin l.names old new session.answers e
 
 -- the same of a connection that began with nothing, by what is known of its ends
 abbrev pub IsConnection : (ℕ → Type 0) → Layout → Wire → Option (List ℕ) → ℕ → Option (List ℕ) → ℕ

@@ -9,6 +9,7 @@ ghost use Rattle.stream_handler.specs.Questions.{IsActionOf};
 use crate::Outcome;
 use crate::question::Question;
 use daemon_board::{BoardFault, Daemons};
+use root_runs::Docs;
 use std::alloc::Global;
 use tuple_values::{Memory, Text, Tuple, Tuples, Value};
 
@@ -60,7 +61,7 @@ pub(crate) fn op_done(alloc: Global, done: &str, id: &str) -> Result<Outcome, Me
 {
     let docs = op_docs(alloc, done, id)?;
     Ok(Outcome::ResultSet {
-        docs,
+        docs: Docs::listed(docs),
         exception: None,
     })
 }

@@ -40,7 +40,7 @@ pub enum OneEnd {
 #[derive(Drop)]
 pub struct SessionEnd {
     /// One for each request that was answered, in their order; the last reply may be written in
-    /// part where the sink failed.
+    /// part, where the sink failed or memory was wanting as it was made.
     pub exchanges: Exchanges,
     pub end: End,
     /// What the site's record holds beside them: something only where memory was wanting inside a

@@ -2,11 +2,11 @@
 ghost use Rattle.std.specs.Prelude.{◌≡◌, IfOk, IfErr};
 ghost use Rattle.stream_handler.specs.Boards.{board_state};
 ghost use Rattle.stream_handler.specs.Exchanges.{IsAnswered, IsBroken, IsResponded};
-ghost use Rattle.stream_handler.specs.Replies.{reply_text};
 ghost use Rattle.root_runs.specs.Stays.{Stays};
 
 use crate::question::prepare;
 use crate::request::request_question;
+use crate::{Framing, Reply};
 use daemon_board::Daemons;
 use form_request::Request;
 use io_edge::Gate;
@@ -16,7 +16,7 @@ use shard_versions::{CutMarks, OwnMarks};
 use std::alloc::Global;
 use std::thread::Threads;
 use stream_site::Turns;
-use tuple_values::{Bytes, Memory, Sequence};
+use tuple_values::{Memory, Sequence};
 
 /// What one request did: its looks and its own steps, each in order, and how many milliseconds it
 /// took.
@@ -29,21 +29,6 @@ pub struct Exchange {
 
 /// Exchanges, in their order.
 pub type Exchanges = Sequence<Exchange>;
-
-/// A response that is still to be written.
-#[derive(Drop)]
-pub struct Reply {
-    pub(crate) bytes: Bytes,
-}
-
-impl Reply {
-    /// Its bytes.
-    pub fn as_slice(&self) -> &[u8]
-        ensures { result.now ≡ reply_text self.now }
-    {
-        self.bytes.as_slice()
-    }
-}
 
 /// A response that is still to be written, and what its request did.
 #[derive(Drop)]
@@ -62,7 +47,7 @@ fn respond<T: Turns, D: Daemons, R: Threads + Sync, C: Clock, G: Gate>(
     request: &Request,
     clock: &C,
     gate: &G,
-) -> Result<(Bytes, u64), Memory>
+) -> Result<(Reply, u64), Memory>
     ensures responded { IsResponded (C.tells clock.now)
         (T.layout site.old) (T.writer site.old) (T.writer site.new)
         (board_state (D.shown board.old) (D.answers board.old))
@@ -73,7 +58,7 @@ fn respond<T: Turns, D: Daemons, R: Threads + Sync, C: Clock, G: Gate>(
     let question = request_question(rt, alloc, site, request, gate)?;
     let prepared = prepare(alloc, board, question)?;
     let millis = since(clock, now);
-    let replies = prepared.replies(alloc, request.closes, millis)?;
+    let replies = prepared.replies(alloc, Framing::of(request), millis)?;
     let reply = replies.ask(alloc, board, now)?;
     Ok((reply, millis))
 }
@@ -108,8 +93,5 @@ pub fn answer<T: Turns, D: Daemons, R: Threads + Sync, C: Clock, G: Gate>(
         own: record.own,
         millis,
     };
-    Ok(Answered {
-        reply: Reply { bytes: reply },
-        exchange,
-    })
+    Ok(Answered { reply, exchange })
 }

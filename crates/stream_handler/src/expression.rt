@@ -20,7 +20,7 @@ use daemon_board::Daemons;
 use expr_check::{Checked, Roots};
 use expr_text::{TextFault, read_checked};
 use io_edge::Gate;
-use root_runs::{run_deed, run_plain};
+use root_runs::{open_plain, run_deed};
 use std::alloc::Global;
 use std::thread::Threads;
 use stream_site::Turns;
@@ -39,7 +39,7 @@ fn give<T: Turns, R: Threads + Sync, G: Gate>(
         (plain_course (T.layout site.old) (Ok (tree_of checked.now))) result }
     ensures stays { Stays T.layout T.home T.free site.old site.new }
 {
-    let docs = run_plain(rt, alloc, site, checked, gate)?;
+    let docs = open_plain(rt, alloc, site, checked, gate)?;
     Ok(Outcome::ResultSet {
         docs,
         exception: None,

@@ -1,15 +1,17 @@
 // What the board is asked last, when all that may be answered is made.
 ghost use Rattle.std.specs.Prelude.{◌≡◌, IfOk};
 ghost use Rattle.stream_handler.specs.Boards.{board_state};
-ghost use Rattle.stream_handler.specs.Choices.{IsChangeChosen, IsChosen, IsStartAsked, IsStartPicked, replied, start_replies};
+ghost use Rattle.stream_handler.specs.Choices.{IsChangeChosen, IsChosen, IsStartAsked, IsStartPicked, each_start, each_told};
+ghost use Rattle.stream_handler.specs.Outcomes.{due_for};
+ghost use Rattle.stream_handler.specs.Replies.{due};
 
-use crate::Outcome;
 use crate::action::{Change, ask_for};
 use crate::starting::NewDaemon;
+use crate::{Framing, Outcome, Reply};
 use daemon_board::{BoardFault, Daemons};
 use expr_check::Checked;
 use std::alloc::Global;
-use tuple_values::{Bytes, Memory, Text};
+use tuple_values::{Memory, Text};
 
 /// What a start is told: that it was made, that its id is taken, or that the board is full.
 #[derive(Drop)]
@@ -42,17 +44,23 @@ impl<A: Drop> StartTold<A> {
 
 impl StartTold<Outcome> {
     // The responses that tell it, after so many milliseconds.
-    fn replies(self, alloc: Global, closes: bool, millis: u64) -> Result<StartTold<Bytes>, Memory>
-        ensures { IfOk result (λ told. told ≡ start_replies closes millis self) }
+    fn replies(
+        self,
+        alloc: Global,
+        framing: Framing,
+        millis: u64,
+    ) -> Result<StartTold<Reply>, Memory>
+        ensures { IfOk result (λ told.
+            each_start due told ≡ each_start (due_for framing millis) self) }
     {
         let StartTold {
             started,
             taken,
             full,
         } = self;
-        let started = started.reply(alloc, closes, millis)?;
-        let taken = taken.reply(alloc, closes, millis)?;
-        let full = full.reply(alloc, closes, millis)?;
+        let started = started.reply(alloc, framing, millis)?;
+        let taken = taken.reply(alloc, framing, millis)?;
+        let full = full.reply(alloc, framing, millis)?;
         Ok(StartTold {
             started,
             taken,
@@ -82,26 +90,26 @@ pub(crate) enum Prepared<A> {
 }
 
 impl Prepared<Outcome> {
-    /// The same with the response to each answer, after so many milliseconds. Where the connection
-    /// closes with it, it says so.
+    /// The same with the response to each answer, after so many milliseconds.
     pub(crate) fn replies(
         self,
         alloc: Global,
-        closes: bool,
+        framing: Framing,
         millis: u64,
-    ) -> Result<Prepared<Bytes>, Memory>
-        ensures { IfOk result (λ replies. replies ≡ replied closes millis self) }
+    ) -> Result<Prepared<Reply>, Memory>
+        ensures { IfOk result (λ replies.
+            each_told due replies ≡ each_told (due_for framing millis) self) }
     {
         match self {
-            Prepared::Told(outcome) => Ok(Prepared::Told(outcome.reply(alloc, closes, millis)?)),
+            Prepared::Told(outcome) => Ok(Prepared::Told(outcome.reply(alloc, framing, millis)?)),
             Prepared::Change {
                 what,
                 id,
                 made,
                 unknown,
             } => {
-                let made = made.reply(alloc, closes, millis)?;
-                let unknown = unknown.reply(alloc, closes, millis)?;
+                let made = made.reply(alloc, framing, millis)?;
+                let unknown = unknown.reply(alloc, framing, millis)?;
                 Ok(Prepared::Change {
                     what,
                     id,
@@ -114,7 +122,7 @@ impl Prepared<Outcome> {
                 checked,
                 told,
             } => {
-                let told = told.replies(alloc, closes, millis)?;
+                let told = told.replies(alloc, framing, millis)?;
                 Ok(Prepared::Start {
                     daemon,
                     checked,

@@ -9,6 +9,7 @@ use crate::prepared::{Prepared, StartTold};
 use crate::starting::NewDaemon;
 use daemon_board::Daemons;
 use expr_check::Checked;
+use root_runs::Docs;
 use std::alloc::Global;
 use tuple_values::{Memory, Text};
 
@@ -32,7 +33,7 @@ fn list<D: Daemons>(alloc: Global, board: &mut D) -> Result<Outcome, Memory>
 {
     let docs = board.list(alloc)?;
     Ok(Outcome::ResultSet {
-        docs,
+        docs: Docs::listed(docs),
         exception: None,
     })
 }

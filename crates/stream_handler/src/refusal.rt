@@ -2,7 +2,8 @@
 ghost use Rattle.std.specs.Prelude.{◌≡◌, IfOk};
 ghost use Rattle.stream_handler.specs.Refusals.{refusal_reply, refusal_text};
 
-use crate::Outcome;
+use crate::response::response;
+use json_text::error_text;
 use std::alloc::Global;
 use tuple_values::{Bytes, Memory, Text};
 
@@ -27,6 +28,6 @@ pub(crate) fn refusal_reply(alloc: Global, status: u16) -> Result<Bytes, Memory>
     ensures { IfOk result (λ bytes. bytes ≡ refusal_reply status) }
 {
     let msg = Text::of(alloc, refusal_text(status))?;
-    let refusal = Outcome::Refused { code: status, msg };
-    refusal.reply(alloc, true, 0)
+    let body = error_text(alloc, status, &msg, 0)?;
+    response(alloc, status, true, body)
 }

@@ -1,7 +1,8 @@
 // The bytes of HTTP responses.
 ghost use Rattle.std.specs.Prelude.{◌≡◌, ◌++◌, IfOk, OnOk};
 ghost use Rattle.std.specs.Fmt.{decimal};
-ghost use Rattle.stream_handler.specs.Responses.{reason_of, status_line, closing, fields, response};
+ghost use Rattle.stream_handler.specs.Chunks.{chunk};
+ghost use Rattle.stream_handler.specs.Responses.{chunked_fields, chunked_head, closing, fields, reason_of, response, status_line};
 
 use http::StatusCode;
 use std::alloc::Global;
@@ -53,6 +54,34 @@ fn push_fields(alloc: Global, out: &mut Bytes, size: u64, closes: bool) -> Resul
     push_number(alloc, out, size)?;
     out.extend(b"\r\n")?;
     push_closing(out, closes)?;
+    out.extend(b"\r\n")
+}
+
+fn push_chunked_fields(out: &mut Bytes, closes: bool) -> Result<(), Memory>
+    ensures { OnOk result (out.new ≡ out.old ++ chunked_fields closes) }
+{
+    out.extend(b"Content-Type: application/json\r\nTransfer-Encoding: chunked\r\n")?;
+    push_closing(out, closes)?;
+    out.extend(b"\r\n")
+}
+
+/// Adds the head of a response whose body goes in chunks. Where the connection closes with it, it
+/// says so.
+pub(crate) fn push_chunked_head(alloc: Global, out: &mut Bytes, closes: bool) -> Result<(), Memory>
+    ensures { OnOk result (out.new ≡ out.old ++ chunked_head closes) }
+{
+    push_status_line(alloc, out, 200)?;
+    push_chunked_fields(out, closes)
+}
+
+/// Adds these bytes as a chunk.
+pub(crate) fn push_chunk(alloc: Global, out: &mut Bytes, bytes: &[u8]) -> Result<(), Memory>
+    ensures { OnOk result (out.new ≡ out.old ++ chunk bytes.now) }
+{
+    let size = bytes.len() as u64;
+    let text = format!(in alloc; "{size:x}\r\n")?;
+    out.extend(text.as_bytes())?;
+    out.extend(bytes)?;
     out.extend(b"\r\n")
 }
 

@@ -5,11 +5,12 @@ ghost use Rattle.stream_handler.specs.Sessions.{IsOneEnd, wire};
 ghost use Rattle.stream_handler.specs.Serving.{IsReplied, sunk};
 ghost use Rattle.root_runs.specs.Stays.{Stays};
 
+use crate::reply::write_reply;
 use crate::waiting::next_request;
 use crate::{Answered, End, OneEnd, answer};
 use daemon_board::Daemons;
 use form_request::{Request, Requests};
-use io_edge::{Gate, Put, Sink, Source};
+use io_edge::{Gate, Sink, Source};
 use root_runs::take_record_over;
 use server_edge::Clock;
 use std::alloc::Global;
@@ -44,11 +45,11 @@ fn reply_to<T: Turns, D: Daemons, R: Threads + Sync, K: Sink, C: Clock, G: Gate>
         };
     };
     let Answered { reply, exchange } = answered;
-    match sink.put(reply.as_slice()) {
-        Put::All if closes => OneEnd::Last(exchange),
-        Put::All => OneEnd::Served(exchange),
-        Put::Failed => OneEnd::Over {
-            end: End::WriteFault,
+    match write_reply(alloc, reply, sink) {
+        None if closes => OneEnd::Last(exchange),
+        None => OneEnd::Served(exchange),
+        Some(end) => OneEnd::Over {
+            end,
             unfinished: Some(exchange),
         },
     }

@@ -37,4 +37,5 @@ returns-clause-responded g c =
     c.in_ok-question.ensures.course _ c.in_ok-prepared.prepared c.in_ok-replies.replies
     c.in_ok-reply.reply c.now_ms-now.result c.since-millis.result c.now_ms-now.ensures
     c.since-millis.ensures c.in_ok-question.ensures.asks c.in_ok-prepared.ensures.prepared
-    c.in_ok-prepared.ensures.same c.in_ok-replies.ensures c.in_ok-reply.ensures
+    c.in_ok-prepared.ensures.same c.of.result c.of.ensures c.in_ok-replies.ensures
+    c.in_ok-reply.ensures

@@ -12,7 +12,7 @@ use Rattle.stream_handler.proofs.expression.give.Goals as goal
 pub returns-in_err-docs-clause-course : goal.returns-in_err-docs-clause-course
 returns-in_err-docs-clause-course g c =
     let w = g.T.Turns.writer c.args.site.now in
-    let new = g.T.Turns.writer c.run_plain.new.site in
+    let new = g.T.Turns.writer c.open_plain.new.site in
     let l = g.T.Turns.layout c.args.site.now in
     let e = tree_of c.args.checked.now in
     let r = err_from_is_err_and c.from_residual.result c.from_residual.ensures.1 in
@@ -23,7 +23,7 @@ returns-in_err-docs-clause-course g c =
 pub returns-clause-course : goal.returns-clause-course
 returns-clause-course g c =
     let w = g.T.Turns.writer c.args.site.now in
-    let new = g.T.Turns.writer c.run_plain.new.site in
+    let new = g.T.Turns.writer c.open_plain.new.site in
     let l = g.T.Turns.layout c.args.site.now in
     let e = tree_of c.args.checked.now in
     first_answered w new (list_course l e) (λ docs. ends (ResultSet docs None)) c.in_ok-docs.docs

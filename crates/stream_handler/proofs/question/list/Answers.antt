@@ -1,5 +1,7 @@
-use Rattle.std.proofs.Common.{refl}
+use Rattle.std.proofs.Common.{ap}
+use Rattle.std.specs.Prelude.{None}
 use Rattle.std.proofs.lemmas.Result.{err_from_is_err_and}
+use Rattle.stream_handler.specs.declared.outcome.Outcome.TheVariants.{ResultSet}
 use Rattle.stream_handler.proofs.BoardLemmas.{list_broken}
 use Rattle.stream_handler.proofs.question.list.Goals as goal
 
@@ -12,7 +14,7 @@ returns-in_err-docs g c =
 pub returns : goal.returns
 returns g c = record {
   docs = c.in_ok-docs.docs;
-  outcome = refl;
+  outcome = ap (λ docs. ResultSet docs None) c.listed.ensures;
   told = c.in_ok-docs.ensures.told;
   counted = c.in_ok-docs.ensures.counted;
 }
