@@ -38,19 +38,20 @@ fn push_text(out: &mut Bytes, text: &Option<Text>) -> Result<(), Memory> {
     }
 }
 
-fn push_outcome(alloc: Global, out: &mut Bytes, outcome: &Outcome) -> Result<(), Memory> {
+fn push_outcome(alloc: Global, out: &mut Bytes, outcome: Outcome) -> Result<(), Memory> {
     match outcome {
         Outcome::Indexed => out.extend(b"indexed"),
         Outcome::Refused { msg, .. } => out.extend(msg.as_str().as_bytes()),
         Outcome::ResultSet { docs, exception } => {
-            push_tuples(alloc, out, docs)?;
-            push_text(out, exception)
+            let docs = docs.gathered(alloc)?;
+            push_tuples(alloc, out, &docs)?;
+            push_text(out, &exception)
         }
     }
 }
 
 // What an answer says, in one line.
-fn line_of(alloc: Global, outcome: &Outcome) -> Result<Bytes, Memory> {
+fn line_of(alloc: Global, outcome: Outcome) -> Result<Bytes, Memory> {
     let mut out = Bytes::new(alloc);
     push_outcome(alloc, &mut out, outcome)?;
     Ok(out)
@@ -167,7 +168,7 @@ fn told<T: Turns, R: Threads + Sync>(
     ensures home { T.home site.new ≡ T.home site.old }
 {
     let outcome = outcome_of(rt, alloc, site, board, case)?;
-    line_of(alloc, &outcome)
+    line_of(alloc, outcome)
 }
 
 /// The answer to one case: `update NAME BODY` is a body of an update with a commit, `pending NAME BODY`

@@ -19,7 +19,7 @@ use Rattle.daemon_steps.specs.Stepped.{IsStepped}
 use Rattle.server_edge.specs.Clocks.{Took}
 use Rattle.stream_handler.specs.Asks.{ask_of}
 use Rattle.stream_handler.specs.Exchanges.{Answer, messages_of, replies_of, reply_to}
-use Rattle.stream_handler.specs.Outcomes.{reply_of}
+use Rattle.stream_handler.specs.Outcomes.{framing_of, reply_of}
 use Rattle.stream_handler.specs.Passing.{said}
 use Rattle.stream_handler.specs.Requests.{request_course}
 use Rattle.stream_handler.specs.Sessions.{Exchanged}
@@ -178,12 +178,12 @@ module _ (l : Layout) (seen : List Log) (alone : (had : List ℕ) → IsAlone 1 
 
   -- the reply to a message, at the time 0
   abbrev pub reply_alone : Message → Outcome → ByteList
-  reply_alone m o = said m.asks ++ reply_of m.request.closes 0 o
+  reply_alone m o = said m.asks ++ reply_of (framing_of m.request) 0 o
 
   pub one_reply : (w v : Writer) (a : Answer) → Exchanged TellsZero l w v (a ∷ [])
       → reply_to a ≡ reply_alone a.message a.outcome
   one_reply w v a x =
-      ap (λ n. said a.message.asks ++ reply_of a.message.request.closes n a.outcome)
+      ap (λ n. said a.message.asks ++ reply_of (framing_of a.message.request) n a.outcome)
       (took_none a.now a.exchange.millis x.sound.1.lasted)
 
   -- behind some messages, others are answered over what those left

@@ -27,15 +27,15 @@ use Rattle.running_site.specs.Passes.{new_writer}
 use Rattle.daemon_board.specs.Boards.{Told, empty_board}
 use Rattle.daemon_board.specs.Tickets.{tickets_of}
 use Rattle.stream_handler.specs.Exchanges.{Answer, BoardsAlong, messages_of, replies_of, reply_to}
-use Rattle.stream_handler.specs.Outcomes.{reply_of}
+use Rattle.stream_handler.specs.Outcomes.{framing_of, reply_of}
 use Rattle.stream_handler.specs.Passing.{front_text, said}
 use Rattle.stream_handler.specs.Sessions.{Wire, wire, Came, EndsBy, IsCutOff, IsLost, IsOneOver, IsStuck, IsEmptied, IsUnfinished, Passed, WireEnds, record_of}
 use Rattle.stream_handler.specs.declared.ending.End.{End}
 use Rattle.stream_handler.specs.declared.ending.End.TheVariants as end
 use Rattle.stream_handler.specs.declared.exchange.Exchange.{Exchange}
 use Rattle.stream_handler.specs.declared.outcome.Outcome.{Outcome}
-use Rattle.stream_handler.proofs.ConnectionLemmas.{not_closing}
-use Rattle.stream_handler.proofs.ServeLemmas.{passed_join, wire_join}
+use Rattle.stream_handler.specs.Serving.{BreaksOff}
+use Rattle.stream_handler.proofs.ServeLemmas.{cut_join, passed_join, wire_join}
 use Rattle.stream_handler.proofs.WaitLemmas.{said_first}
 use Rattle.stream_handler.proofs.WireLemmas.{appends_join, rose_since}
 use Rattle.stream_commands.specs.Boards.{no_tickets}
@@ -234,7 +234,8 @@ module _ (names : List NameShards) (all : List ℕ) (reads : ℕ) (written : Opt
       (λ more. stopped_reads names new.held.stage new.held.bytes more status q.1) q.2
   wire_writes end.ReadFault other lawful q = read_part q.1.0 lawful q.1.1
   wire_writes end.WriteFault other lawful q = broken_part q.1
-  wire_writes end.OutOfMemory other lawful q = lost_part q
+  wire_writes end.OutOfMemory other lawful (inl q) = lost_part q
+  wire_writes end.OutOfMemory other lawful (inr q) = cut_part q
 
   -- a script that was served to the end of a message, and no further
   pub between_part : Passed names old new (messages_of answers) false
@@ -402,7 +403,7 @@ module _ (names : List NameShards) (all : List ℕ) (reads : ℕ) (written : Opt
         → Appends mid.written new.written (said m.asks) → Wrote end.OutOfMemory
     broke m passed app =
         let o = (answered_alone (layout names) logs (tickets_of b.shown) m).1 in
-        let reply = reply_of m.request.closes 0 o in
+        let reply = reply_of (framing_of m.request) 0 o in
         begun_part names all reads written writes new answers replies_here before_here m
         (reply ++ []) lawful_here (behind (m ∷ [])
         ∙ ap (λ (t : ByteList). replies_of answers ++ t) (append_assoc (said m.asks) reply []))
@@ -410,14 +411,23 @@ module _ (names : List NameShards) (all : List ℕ) (reads : ℕ) (written : Opt
         (appends_join written mid.written new.written (replies_of answers) (said m.asks) p.written
         app)
 
-    -- the reply to one more message is written in part
-    cut_off : (c : Told) (a : Answer) → IsAnsweredTo (layout names) w v b c a
-        → Rose mid.writes new.writes → IsCutOff names mid new (a ∷ []) → Wrote end.WriteFault
-    cut_off c a x rose cut =
-        broken_part names all reads written writes new (answers ++ a ∷ [])
+    abbrev cut_in : (c : Told) (a : Answer) → IsAnsweredTo (layout names) w v b c a
+        → IsCutOff names mid new (a ∷ []) → Wrote end.OutOfMemory
+    cut_in c a x cut =
+        cut_part names all reads written writes new (answers ++ a ∷ [])
         (replies_more v c a (record { same = refl; grown = grows_same v.seen }) x) (before_more a)
-        (wire_join names began mid new answers (a ∷ []) p.passed p.written end.WriteFault p.counts
-        not_closing (rose, inr cut)).1
+        (cut_join names began mid new answers (a ∷ []) p.passed p.written cut)
+
+    -- the reply to one more message is written in part
+    cut_off : (c : Told) (a : Answer) (e : End) → IsAnsweredTo (layout names) w v b c a
+        → BreaksOff e mid.writes new.writes → IsCutOff names mid new (a ∷ []) → Wrote e
+    cut_off c a end.Ended x why cut = absurd why
+    cut_off c a end.Closed x why cut = absurd why
+    cut_off c a (end.Cut held) x why cut = absurd why
+    cut_off c a (end.Refused status) x why cut = absurd why
+    cut_off c a end.ReadFault x why cut = absurd why
+    cut_off c a end.WriteFault x rose cut = (cut_in c a x cut, refl)
+    cut_off c a end.OutOfMemory x free cut = cut_in c a x cut
 
     -- memory was wanting when the daemons ran behind one more message
     cut_in_runs : (u : Writer) (c : Told) (a : Answer) → HasGrown u v
@@ -453,13 +463,12 @@ module _ (names : List NameShards) (all : List ℕ) (reads : ℕ) (written : Opt
             (grown_join w s.mid v (answered_grown (layout names) w s.mid [] s.exchanged)
             (record { same = s.same; grown = s.grown })) s.message s.passed s.written)
     over_writes e (Some x) o =
-        subst Wrote (sym o.0)
-        (cut_off mid w b answers p
-        (answered_grown (layout names) w v (o.1.answer ∷ []) o.1.exchanged) after o.1.answer
-        (one_answered (layout names) mid.board w v b after o.1.answer p.board o.1.exchanged
-        (subst (λ s. BoardsAlong TellsZero (layout names) mid.board (o.1.answer ∷ []) s) told
-        o.1.boards))
-        o.1.rose o.1.cut)
+        cut_off mid w b answers p
+        (answered_grown (layout names) w v (o.answer ∷ []) o.exchanged) after o.answer e
+        (one_answered (layout names) mid.board w v b after o.answer p.board o.exchanged
+        (subst (λ s. BoardsAlong TellsZero (layout names) mid.board (o.answer ∷ []) s) told
+        o.boards))
+        o.cause o.cut
 
     runs_write : (e : End) → IsCutInRuns (layout names) mid new w v after e → Wrote e
     runs_write e r =
@@ -550,13 +559,21 @@ served_risen l old new w v before after e s = by_stops s.stops
     by_ends (inl i) = by_wire e i.ends
     by_ends (inr b) = subst (Rises old new) (sym b.0) tt
 
+    by_cause : (e : End) → BreaksOff e s.mid.writes new.writes → Rises old new e
+    by_cause end.Ended c = absurd c
+    by_cause end.Closed c = absurd c
+    by_cause (end.Cut held) c = absurd c
+    by_cause (end.Refused status) c = absurd c
+    by_cause end.ReadFault c = absurd c
+    by_cause end.WriteFault rose =
+        rose_since old.writes s.mid.writes new.writes s.served.counts.writes rose
+    by_cause end.OutOfMemory free = tt
+
     by_over : (unfinished : Option Exchange)
         → IsOneOver TellsZero l s.mid new s.turned v unfinished e
         → Rises old new e
     by_over None o = by_ends o.over.ends
-    by_over (Some x) o =
-        subst (Rises old new) (sym o.0)
-        (rose_since old.writes s.mid.writes new.writes s.served.counts.writes o.1.rose)
+    by_over (Some x) o = by_cause e o.cause
 
     by_why : ((e ≡ end.Closed) × (new.held.stage ≡ stage.Closed)) ⊎ (e ≡ end.OutOfMemory)
         → Rises old new e

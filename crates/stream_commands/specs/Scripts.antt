@@ -13,7 +13,7 @@ use Rattle.form_request.specs.Streams.{Held, begun}
 use Rattle.form_request.specs.declared.reading.After.{After}
 use Rattle.form_request.specs.declared.reading.After.TheVariants.{Refusal, Rest}
 use Rattle.form_request.specs.declared.reading.Message.{Message}
-use Rattle.stream_handler.specs.Outcomes.{reply_of}
+use Rattle.stream_handler.specs.Outcomes.{framing_of, reply_of}
 use Rattle.stream_handler.specs.Passing.{Passes, front_text, said}
 use Rattle.stream_handler.specs.Refusals.{refusal_reply}
 use Rattle.stream_handler.specs.Sessions.{Came}
@@ -28,7 +28,7 @@ use Rattle.stream_commands.specs.Rounds.{AreLawful, AreLawfulBefore, after_messa
 abbrev pub replies_alone : Layout → List Log → Tickets → List Message → ByteList
 replies_alone l logs b [] = []
 replies_alone l logs b (m ∷ messages) =
-    (said m.asks ++ reply_of m.request.closes 0 (answered_alone l logs b m).1)
+    (said m.asks ++ reply_of (framing_of m.request) 0 (answered_alone l logs b m).1)
     ++ replies_alone l (after_message l logs b m).0 (after_message l logs b m).1 messages
 
 -- what is written of what stands behind the last message
