@@ -2,6 +2,8 @@
 #![tactic(auto)]
 
 #[cfg(test)]
+mod of_chunks;
+#[cfg(test)]
 mod of_daemons;
 #[cfg(test)]
 mod of_eval;

@@ -19,17 +19,17 @@ pub(crate) const START: &str =
      int%3D0)))";
 
 pub(crate) const STARTED: &str =
-    "HTTP/1.1 200 OK\r\nContent-Type: application/json\r\nContent-Length: 82\r\n\r\n{\"result-set\":{\"docs\":[{\"DaemonOp\":\"started d1\"},{\"EOF\":true,\"RESPONSE_TIME\":0}]}}";
+    "HTTP/1.1 200 OK\r\nContent-Type: application/json\r\nTransfer-Encoding: chunked\r\n\r\n52\r\n{\"result-set\":{\"docs\":[{\"DaemonOp\":\"started d1\"},{\"EOF\":true,\"RESPONSE_TIME\":0}]}}\r\n0\r\n\r\n";
 
 pub(crate) const LIST: &str = "GET /solr/src/stream?action=list HTTP/1.1\r\n\r\n";
 
 const LISTED: &str =
-    "HTTP/1.1 200 OK\r\nContent-Type: application/json\r\nContent-Length: 101\r\n\r\n{\"result-set\":{\"docs\":[{\"id\":\"d1\",\"iterations\":1,\"state\":\"RUNNING\"},{\"EOF\":true,\"RESPONSE_TIME\":0}]}}";
+    "HTTP/1.1 200 OK\r\nContent-Type: application/json\r\nTransfer-Encoding: chunked\r\n\r\n65\r\n{\"result-set\":{\"docs\":[{\"id\":\"d1\",\"iterations\":1,\"state\":\"RUNNING\"},{\"EOF\":true,\"RESPONSE_TIME\":0}]}}\r\n0\r\n\r\n";
 
 pub(crate) const STOP: &str = "GET /solr/src/stream?action=stop&id=d1 HTTP/1.1\r\n\r\n";
 
 pub(crate) const STOPPED: &str =
-    "HTTP/1.1 200 OK\r\nContent-Type: application/json\r\nContent-Length: 82\r\n\r\n{\"result-set\":{\"docs\":[{\"DaemonOp\":\"stopped d1\"},{\"EOF\":true,\"RESPONSE_TIME\":0}]}}";
+    "HTTP/1.1 200 OK\r\nContent-Type: application/json\r\nTransfer-Encoding: chunked\r\n\r\n52\r\n{\"result-set\":{\"docs\":[{\"DaemonOp\":\"stopped d1\"},{\"EOF\":true,\"RESPONSE_TIME\":0}]}}\r\n0\r\n\r\n";
 
 const PUT_ONE_MORE: &str =
     "POST /solr/src/update?commit=true HTTP/1.1\r\nContent-Length: 24\r\n\r\n[{\"id\":\"500\",\"n_i\":150}]";
@@ -38,22 +38,22 @@ const COUNT: &str =
     "GET /solr/dest/stream?expr=rollup(search(dest,q%3D%22*:*%22,fl%3D%22_src_s%22,sort%3D%22_src_s+asc%22),over%3D%22_src_s%22,count(*)) HTTP/1.1\r\n\r\n";
 
 const DELIVERED: &str =
-    "HTTP/1.1 200 OK\r\nContent-Type: application/json\r\nContent-Length: 88\r\n\r\n{\"result-set\":{\"docs\":[{\"_src_s\":\"src\",\"count(*)\":200},{\"EOF\":true,\"RESPONSE_TIME\":0}]}}";
+    "HTTP/1.1 200 OK\r\nContent-Type: application/json\r\nTransfer-Encoding: chunked\r\n\r\n58\r\n{\"result-set\":{\"docs\":[{\"_src_s\":\"src\",\"count(*)\":200},{\"EOF\":true,\"RESPONSE_TIME\":0}]}}\r\n0\r\n\r\n";
 
 pub(crate) const RESUME: &str = "GET /solr/src/stream?action=start&id=d1 HTTP/1.1\r\n\r\n";
 
 const DELIVERED_MORE: &str =
-    "HTTP/1.1 200 OK\r\nContent-Type: application/json\r\nContent-Length: 88\r\n\r\n{\"result-set\":{\"docs\":[{\"_src_s\":\"src\",\"count(*)\":201},{\"EOF\":true,\"RESPONSE_TIME\":0}]}}";
+    "HTTP/1.1 200 OK\r\nContent-Type: application/json\r\nTransfer-Encoding: chunked\r\n\r\n58\r\n{\"result-set\":{\"docs\":[{\"_src_s\":\"src\",\"count(*)\":201},{\"EOF\":true,\"RESPONSE_TIME\":0}]}}\r\n0\r\n\r\n";
 
 pub(crate) const KILL: &str = "GET /solr/src/stream?action=kill&id=d9 HTTP/1.1\r\n\r\n";
 
 pub(crate) const UNKNOWN: &str =
-    "HTTP/1.1 200 OK\r\nContent-Type: application/json\r\nContent-Length: 87\r\n\r\n{\"result-set\":{\"docs\":[{\"EOF\":true,\"EXCEPTION\":\"UnknownDaemon d9\",\"RESPONSE_TIME\":0}]}}";
+    "HTTP/1.1 200 OK\r\nContent-Type: application/json\r\nTransfer-Encoding: chunked\r\n\r\n57\r\n{\"result-set\":{\"docs\":[{\"EOF\":true,\"EXCEPTION\":\"UnknownDaemon d9\",\"RESPONSE_TIME\":0}]}}\r\n0\r\n\r\n";
 
 const NEITHER: &str = "GET /solr/src/stream HTTP/1.1\r\n\r\n";
 
 const MISSING: &str =
-    "HTTP/1.1 200 OK\r\nContent-Type: application/json\r\nContent-Length: 95\r\n\r\n{\"result-set\":{\"docs\":[{\"EOF\":true,\"EXCEPTION\":\"MissingParam stream expr\",\"RESPONSE_TIME\":0}]}}";
+    "HTTP/1.1 200 OK\r\nContent-Type: application/json\r\nTransfer-Encoding: chunked\r\n\r\n5f\r\n{\"result-set\":{\"docs\":[{\"EOF\":true,\"EXCEPTION\":\"MissingParam stream expr\",\"RESPONSE_TIME\":0}]}}\r\n0\r\n\r\n";
 
 const REQUESTS: [&str; 9] = [
     START,

@@ -136,8 +136,9 @@ fn serve<R: Net<Listener = TcpListener, Stream = TcpStream> + Threads + Wait + S
 
 const TUPLE: &str = "GET /solr/c/stream?expr=tuple(a%3D1,b%3D%22x%22) HTTP/1.1\r\nHost: h\r\n\r\n";
 
-const TOLD: &str = "HTTP/1.1 200 OK\r\nContent-Type: application/json\r\nContent-Length: 72\r\n\r\n\
-     {\"result-set\":{\"docs\":[{\"a\":1,\"b\":\"x\"},{\"EOF\":true,\"RESPONSE_TIME\":0}]}}";
+const TOLD: &str =
+    "HTTP/1.1 200 OK\r\nContent-Type: application/json\r\nTransfer-Encoding: chunked\r\n\r\n\
+     48\r\n{\"result-set\":{\"docs\":[{\"a\":1,\"b\":\"x\"},{\"EOF\":true,\"RESPONSE_TIME\":0}]}}\r\n0\r\n\r\n";
 
 fn over_loopback<
     R: Net<Listener = TcpListener, Stream = TcpStream> + Threads + Wait + SystemClock + Sync,

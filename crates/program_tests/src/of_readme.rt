@@ -20,8 +20,8 @@ const START: &str =
      fl%3Dn_i))) HTTP/1.1\r\n\r\n";
 
 const STARTED: &str =
-    "HTTP/1.1 200 OK\r\nContent-Type: application/json\r\nContent-Length: 84\r\n\r\n\
-     {\"result-set\":{\"docs\":[{\"DaemonOp\":\"started feed\"},{\"EOF\":true,\"RESPONSE_TIME\":0}]}}";
+    "HTTP/1.1 200 OK\r\nContent-Type: application/json\r\nTransfer-Encoding: chunked\r\n\r\n\
+     54\r\n{\"result-set\":{\"docs\":[{\"DaemonOp\":\"started feed\"},{\"EOF\":true,\"RESPONSE_TIME\":0}]}}\r\n0\r\n\r\n";
 
 const PUT: &str =
     "POST /solr/c/update?commit=true HTTP/1.1\r\nContent-Length: 20\r\n\r\n[{\"id\":\"1\",\"n_i\":5}]";
@@ -31,8 +31,8 @@ const SEARCH: &str =
      HTTP/1.1\r\n\r\n";
 
 const FOUND: &str =
-    "HTTP/1.1 200 OK\r\nContent-Type: application/json\r\nContent-Length: 75\r\n\r\n\
-     {\"result-set\":{\"docs\":[{\"id\":\"1\",\"n_i\":5},{\"EOF\":true,\"RESPONSE_TIME\":0}]}}";
+    "HTTP/1.1 200 OK\r\nContent-Type: application/json\r\nTransfer-Encoding: chunked\r\n\r\n\
+     4b\r\n{\"result-set\":{\"docs\":[{\"id\":\"1\",\"n_i\":5},{\"EOF\":true,\"RESPONSE_TIME\":0}]}}\r\n0\r\n\r\n";
 
 #[test]
 fn the_rollup_of_the_readme_gives_two_groups(rt: HostRuntime) -> Result<(), Fail> {

@@ -22,13 +22,13 @@ use std::alloc::Global;
 use std::sync::Wait;
 use std::test::Fail;
 use std::thread::Threads;
-use stream_handler::OneEnd;
+use stream_handler::{OneEnd, Reply};
 use stream_site::shards_of;
-use tuple_values::{Memory, NameShards, Names, Numbers, Text, Tuple, Tuples, Value};
+use tuple_values::{Bytes, Memory, NameShards, Names, Numbers, Text, Tuple, Tuples, Value};
 
 // A site with a source `c`, checkpoints `ck` and a destination `d`, of one shard each, and its one
 // pass.
-fn fed(alloc: Global) -> Result<(Site, Pass), Memory>
+pub(crate) fn fed(alloc: Global) -> Result<(Site, Pass), Memory>
     ensures { IfOk result (λ made. IsPassAt made.0 made.1) }
 {
     let mut names = Names::new(alloc);
@@ -173,17 +173,32 @@ const SEARCH: &str = "GET /solr/d/stream?expr=search(d,q%3D%22*:*%22,fl%3D%22id%
      sort%3D%22id+asc%22) HTTP/1.1\r\n\r\n";
 
 const FOUND: &str = "HTTP/1.1 200 OK\r\nContent-Type: application/json\r\n\
-     Content-Length: 89\r\n\r\n\
-     {\"result-set\":{\"docs\":[{\"id\":\"1\"},{\"id\":\"2\"},{\"id\":\"3\"},{\"EOF\":true,\"RESPONSE_TIME\":0}]}}";
+     Transfer-Encoding: chunked\r\n\r\n\
+     59\r\n{\"result-set\":{\"docs\":[{\"id\":\"1\"},{\"id\":\"2\"},{\"id\":\"3\"},{\"EOF\":true,\"RESPONSE_TIME\":0}]}}\r\n0\r\n\r\n";
 
 // The request of these bytes.
-fn request(alloc: Global, names: &Names, bytes: &str) -> Result<Request, Fail> {
+pub(crate) fn request(alloc: Global, names: &Names, bytes: &[u8]) -> Result<Request, Fail> {
     let mut requests = Requests::begin(alloc);
-    requests.feed(bytes.as_bytes())?;
+    requests.feed(bytes)?;
     match requests.next(names)? {
         Step100::Whole(request) => Ok(request),
         Step100::Refused { .. } | Step100::Continue | Step100::Wants => Err("no request".into()),
     }
+}
+
+// The bytes of a response: its head, its chunk and its last chunk, behind which nothing comes.
+fn bytes_of(alloc: Global, reply: Reply) -> Result<Bytes, Fail> {
+    let Reply::Docs(docs) = reply else {
+        return Err("a whole reply".into());
+    };
+    let mut docs = docs;
+    let mut bytes = Bytes::new(alloc);
+    for _ in 0..4 {
+        if let Some(item) = docs.next(alloc)? {
+            bytes.extend(item.as_slice())?;
+        }
+    }
+    Ok(bytes)
 }
 
 // Whether a search of the destination is answered so, once by itself and once over a connection.
@@ -197,9 +212,11 @@ fn is_answered<R: Threads + Wait + Sync>(
     requires { IsPassAt site.now pass.old }
     ensures { IsPassAt site.now pass.new }
 {
-    let request = request(alloc, site.names(), SEARCH)?;
+    let request = request(alloc, site.names(), SEARCH.as_bytes())?;
     let answered = answer(rt, alloc, site, pass, board, request, &NoClock, &NoGate)?;
-    Ok(is_joined(answered.reply.as_slice(), &[FOUND]) && answered.exchange.marks.len() == 1)
+    let marks = answered.exchange.marks.len();
+    let bytes = bytes_of(alloc, answered.reply)?;
+    Ok(is_joined(bytes.as_slice(), &[FOUND]) && marks == 1)
 }
 
 // Whether the search is answered so over a connection, which goes on.

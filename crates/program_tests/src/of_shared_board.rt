@@ -19,9 +19,9 @@ use stream_handler::OneEnd;
 use tuple_values::{Memory, NameShards, Names, Numbers, Text};
 
 const LISTED: &str =
-    "HTTP/1.1 200 OK\r\nContent-Type: application/json\r\nContent-Length: 101\r\n\r\n\
-     {\"result-set\":{\"docs\":[{\"id\":\"d1\",\"iterations\":0,\"state\":\"RUNNING\"},\
-     {\"EOF\":true,\"RESPONSE_TIME\":0}]}}";
+    "HTTP/1.1 200 OK\r\nContent-Type: application/json\r\nTransfer-Encoding: chunked\r\n\r\n\
+     65\r\n{\"result-set\":{\"docs\":[{\"id\":\"d1\",\"iterations\":0,\"state\":\"RUNNING\"},\
+     {\"EOF\":true,\"RESPONSE_TIME\":0}]}}\r\n0\r\n\r\n";
 
 // A site with a source, checkpoints and a destination, and its one pass.
 fn sourced(alloc: Global) -> Result<(Site, Pass), Memory>

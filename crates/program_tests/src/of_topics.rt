@@ -18,39 +18,39 @@ const FOLLOW: &str =
     "GET /solr/c/stream?expr=topic(ck,c,id%3D%22t2%22,q%3D%22*:*%22,fl%3D%22id%22,initialCheckpoint%3D0) HTTP/1.1\r\n\r\n";
 
 const FOLLOWED: &str =
-    "HTTP/1.1 200 OK\r\nContent-Type: application/json\r\nContent-Length: 131\r\n\r\n{\"result-set\":{\"docs\":[{\"_version_\":1,\"id\":\"1\"},{\"_version_\":1,\"id\":\"2\"},{\"_version_\":2,\"id\":\"3\"},{\"EOF\":true,\"RESPONSE_TIME\":0}]}}";
+    "HTTP/1.1 200 OK\r\nContent-Type: application/json\r\nTransfer-Encoding: chunked\r\n\r\n83\r\n{\"result-set\":{\"docs\":[{\"_version_\":1,\"id\":\"1\"},{\"_version_\":1,\"id\":\"2\"},{\"_version_\":2,\"id\":\"3\"},{\"EOF\":true,\"RESPONSE_TIME\":0}]}}\r\n0\r\n\r\n";
 
 const FEED: &str =
     "GET /solr/d/stream?expr=update(d,batchSize%3D2,topic(ck,c,id%3D%22t3%22,q%3D%22*:*%22,fl%3D%22id,n_i%22,initialCheckpoint%3D0)) HTTP/1.1\r\n\r\n";
 
 const FED: &str =
-    "HTTP/1.1 200 OK\r\nContent-Type: application/json\r\nContent-Length: 160\r\n\r\n{\"result-set\":{\"docs\":[{\"batchIndexed\":2,\"batchNumber\":1,\"totalIndexed\":2},{\"batchIndexed\":1,\"batchNumber\":2,\"totalIndexed\":3},{\"EOF\":true,\"RESPONSE_TIME\":0}]}}";
+    "HTTP/1.1 200 OK\r\nContent-Type: application/json\r\nTransfer-Encoding: chunked\r\n\r\na0\r\n{\"result-set\":{\"docs\":[{\"batchIndexed\":2,\"batchNumber\":1,\"totalIndexed\":2},{\"batchIndexed\":1,\"batchNumber\":2,\"totalIndexed\":3},{\"EOF\":true,\"RESPONSE_TIME\":0}]}}\r\n0\r\n\r\n";
 
 const FED_NOTHING: &str =
-    "HTTP/1.1 200 OK\r\nContent-Type: application/json\r\nContent-Length: 108\r\n\r\n{\"result-set\":{\"docs\":[{\"batchIndexed\":0,\"batchNumber\":1,\"totalIndexed\":0},{\"EOF\":true,\"RESPONSE_TIME\":0}]}}";
+    "HTTP/1.1 200 OK\r\nContent-Type: application/json\r\nTransfer-Encoding: chunked\r\n\r\n6c\r\n{\"result-set\":{\"docs\":[{\"batchIndexed\":0,\"batchNumber\":1,\"totalIndexed\":0},{\"EOF\":true,\"RESPONSE_TIME\":0}]}}\r\n0\r\n\r\n";
 
 const FEED_OTHERS: &str =
     "GET /solr/d/stream?expr=update(d,topic(ck,c,id%3D%22t3%22,q%3D%22n_i:1%22,fl%3D%22id,n_i%22)) HTTP/1.1\r\n\r\n";
 
 const BOUND: &str =
-    "HTTP/1.1 200 OK\r\nContent-Type: application/json\r\nContent-Length: 121\r\n\r\n{\"result-set\":{\"docs\":[{\"EOF\":true,\"EXCEPTION\":\"TopicBound ck t3 kept src=c q=*:* fl=id,n_i dest=d\",\"RESPONSE_TIME\":0}]}}";
+    "HTTP/1.1 200 OK\r\nContent-Type: application/json\r\nTransfer-Encoding: chunked\r\n\r\n79\r\n{\"result-set\":{\"docs\":[{\"EOF\":true,\"EXCEPTION\":\"TopicBound ck t3 kept src=c q=*:* fl=id,n_i dest=d\",\"RESPONSE_TIME\":0}]}}\r\n0\r\n\r\n";
 
 const SEARCH_FED: &str =
     "GET /solr/d/stream?expr=search(d,q%3D%22*:*%22,fl%3D%22id,n_i,_src_s,_src_version_l,_version_%22,sort%3D%22id+asc%22) HTTP/1.1\r\n\r\n";
 
 const FOUND: &str =
-    "HTTP/1.1 200 OK\r\nContent-Type: application/json\r\nContent-Length: 251\r\n\r\n{\"result-set\":{\"docs\":[{\"_src_s\":\"c\",\"_src_version_l\":1,\"_version_\":1,\"id\":\"1\",\"n_i\":1},{\"_src_s\":\"c\",\"_src_version_l\":1,\"_version_\":1,\"id\":\"2\",\"n_i\":2},{\"_src_s\":\"c\",\"_src_version_l\":2,\"_version_\":2,\"id\":\"3\",\"n_i\":3},{\"EOF\":true,\"RESPONSE_TIME\":0}]}}";
+    "HTTP/1.1 200 OK\r\nContent-Type: application/json\r\nTransfer-Encoding: chunked\r\n\r\nfb\r\n{\"result-set\":{\"docs\":[{\"_src_s\":\"c\",\"_src_version_l\":1,\"_version_\":1,\"id\":\"1\",\"n_i\":1},{\"_src_s\":\"c\",\"_src_version_l\":1,\"_version_\":1,\"id\":\"2\",\"n_i\":2},{\"_src_s\":\"c\",\"_src_version_l\":2,\"_version_\":2,\"id\":\"3\",\"n_i\":3},{\"EOF\":true,\"RESPONSE_TIME\":0}]}}\r\n0\r\n\r\n";
 
 const PUT_NO_ID: &str = "GET /solr/c/stream?expr=update(c,tuple(a%3D1)) HTTP/1.1\r\n\r\n";
 
 const BAD_TUPLE: &str =
-    "HTTP/1.1 200 OK\r\nContent-Type: application/json\r\nContent-Length: 84\r\n\r\n{\"result-set\":{\"docs\":[{\"EOF\":true,\"EXCEPTION\":\"BadTuple 0 id\",\"RESPONSE_TIME\":0}]}}";
+    "HTTP/1.1 200 OK\r\nContent-Type: application/json\r\nTransfer-Encoding: chunked\r\n\r\n54\r\n{\"result-set\":{\"docs\":[{\"EOF\":true,\"EXCEPTION\":\"BadTuple 0 id\",\"RESPONSE_TIME\":0}]}}\r\n0\r\n\r\n";
 
 const COMMIT_ROUND: &str =
     "GET /solr/c/stream?expr=commit(c,update(d,tuple(id%3D9)),batchSize%3D1) HTTP/1.1\r\n\r\n";
 
 const ONE_PUT: &str =
-    "HTTP/1.1 200 OK\r\nContent-Type: application/json\r\nContent-Length: 108\r\n\r\n{\"result-set\":{\"docs\":[{\"batchIndexed\":1,\"batchNumber\":1,\"totalIndexed\":1},{\"EOF\":true,\"RESPONSE_TIME\":0}]}}";
+    "HTTP/1.1 200 OK\r\nContent-Type: application/json\r\nTransfer-Encoding: chunked\r\n\r\n6c\r\n{\"result-set\":{\"docs\":[{\"batchIndexed\":1,\"batchNumber\":1,\"totalIndexed\":1},{\"EOF\":true,\"RESPONSE_TIME\":0}]}}\r\n0\r\n\r\n";
 
 // Whether a script over a source, checkpoints and a destination answers these requests so.
 fn feeds<R: Threads + Wait + SystemClock + Sync>(

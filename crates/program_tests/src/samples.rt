@@ -5,20 +5,20 @@ pub(crate) const UPDATED: &str =
      {\"responseHeader\":{\"status\":0,\"QTime\":0}}";
 
 pub(crate) const ONE: &str =
-    "HTTP/1.1 200 OK\r\nContent-Type: application/json\r\nContent-Length: 75\r\n\r\n\
-     {\"result-set\":{\"docs\":[{\"id\":\"1\",\"n_i\":5},{\"EOF\":true,\"RESPONSE_TIME\":0}]}}";
+    "HTTP/1.1 200 OK\r\nContent-Type: application/json\r\nTransfer-Encoding: chunked\r\n\r\n\
+     4b\r\n{\"result-set\":{\"docs\":[{\"id\":\"1\",\"n_i\":5},{\"EOF\":true,\"RESPONSE_TIME\":0}]}}\r\n0\r\n\r\n";
 
 pub(crate) const NONE: &str =
-    "HTTP/1.1 200 OK\r\nContent-Type: application/json\r\nContent-Length: 56\r\n\r\n\
-     {\"result-set\":{\"docs\":[{\"EOF\":true,\"RESPONSE_TIME\":0}]}}";
+    "HTTP/1.1 200 OK\r\nContent-Type: application/json\r\nTransfer-Encoding: chunked\r\n\r\n\
+     38\r\n{\"result-set\":{\"docs\":[{\"EOF\":true,\"RESPONSE_TIME\":0}]}}\r\n0\r\n\r\n";
 
 pub(crate) const BOTH: &str =
-    "HTTP/1.1 200 OK\r\nContent-Type: application/json\r\nContent-Length: 94\r\n\r\n\
-     {\"result-set\":{\"docs\":[{\"id\":\"2\",\"n_i\":5},{\"id\":\"3\",\"n_i\":5},{\"EOF\":true,\"RESPONSE_TIME\":0}]}}";
+    "HTTP/1.1 200 OK\r\nContent-Type: application/json\r\nTransfer-Encoding: chunked\r\n\r\n\
+     5e\r\n{\"result-set\":{\"docs\":[{\"id\":\"2\",\"n_i\":5},{\"id\":\"3\",\"n_i\":5},{\"EOF\":true,\"RESPONSE_TIME\":0}]}}\r\n0\r\n\r\n";
 
 pub(crate) const NOT_IN_FL: &str =
-    "HTTP/1.1 200 OK\r\nContent-Type: application/json\r\nContent-Length: 91\r\n\r\n\
-     {\"result-set\":{\"docs\":[{\"EOF\":true,\"EXCEPTION\":\"SortFieldNotInFl n_i\",\"RESPONSE_TIME\":0}]}}";
+    "HTTP/1.1 200 OK\r\nContent-Type: application/json\r\nTransfer-Encoding: chunked\r\n\r\n\
+     5b\r\n{\"result-set\":{\"docs\":[{\"EOF\":true,\"EXCEPTION\":\"SortFieldNotInFl n_i\",\"RESPONSE_TIME\":0}]}}\r\n0\r\n\r\n";
 
 pub(crate) const NO_ID: &str =
     "HTTP/1.1 400 Bad Request\r\nContent-Type: application/json\r\nContent-Length: 79\r\n\r\n\
@@ -121,8 +121,8 @@ pub(crate) const MANY_WORKERS: &str =
      over%3D%22g_s%22,sum(n_i),count(*)),workers%3D16,sort%3D%22g_s+asc%22) HTTP/1.1\r\n\r\n";
 
 pub(crate) const GROUPS: &str =
-    "HTTP/1.1 200 OK\r\nContent-Type: application/json\r\nContent-Length: 132\r\n\r\n\
-     {\"result-set\":{\"docs\":[{\"count(*)\":2,\"g_s\":\"a\",\"sum(n_i)\":4},{\"count(*)\":1,\"g_s\":\"b\",\"sum(n_i)\":2},{\"EOF\":true,\"RESPONSE_TIME\":0}]}}";
+    "HTTP/1.1 200 OK\r\nContent-Type: application/json\r\nTransfer-Encoding: chunked\r\n\r\n\
+     84\r\n{\"result-set\":{\"docs\":[{\"count(*)\":2,\"g_s\":\"a\",\"sum(n_i)\":4},{\"count(*)\":1,\"g_s\":\"b\",\"sum(n_i)\":2},{\"EOF\":true,\"RESPONSE_TIME\":0}]}}\r\n0\r\n\r\n";
 
 // Requests, what they are answered, and the line at status 5.
 pub(crate) const STOPPED: [(&str, &str, &str); 4] = [
