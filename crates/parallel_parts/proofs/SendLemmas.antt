@@ -25,6 +25,7 @@ use Rattle.expr_types.specs.contracts.item.Item as Item
 use Rattle.expr_types.specs.contracts.item.Metric as Metric
 use Rattle.expr_types.specs.contracts.item.GroupOp as GroupOp
 use Rattle.expr_types.specs.contracts.expr.Expr as Expr
+use Rattle.stream_engine.proofs.SendLemmas.{tuple_sync, document_send}
 use Rattle.expr_check.specs.contracts.order.Order as Order
 use Rattle.expr_check.specs.contracts.checked.Checked as Checked
 use Rattle.expr_check.specs.contracts.checked.ParallelPart as ParallelPart
@@ -34,13 +35,7 @@ use Rattle.parallel_parts.specs.contracts.work.Job as Job
 text_sync : IsSync Text.the_row
 text_sync = search (heap.crosses, sendable) depth 60 fits 20000
 
-tuple_sync : IsSync Tuple.the_row
-tuple_sync = search (tuples.crosses, heap.crosses, sendable) depth 60 fits 20000
-
 -- a cut, by what it is made of
-document_send : IsSend Document.the_row
-document_send = search (tuple_send, tuple_sync, heap.crosses, sendable) depth 60 fits 20000
-
 document_sync : IsSync Document.the_row
 document_sync = search (tuple_send, tuple_sync, heap.crosses, sendable) depth 60 fits 20000
 

@@ -1,7 +1,8 @@
 // Tests of sort_spec, by texts and orders worked by hand from the rules of sorts.
 use crate::making::{Plain, put};
 use sort_spec::{
-    OnPair, SortFault, SortSpec, SortTerm, read_names, read_on, read_sort, sort_lent, sort_tuples,
+    Lends, OnPair, SortFault, SortSpec, SortTerm, read_names, read_on, read_sort, sort_lenders,
+    sort_tuples,
 };
 use std::alloc::Global;
 use std::cmp::Ordering;
@@ -278,10 +279,41 @@ fn lent<'a>(alloc: Global, tuples: &'a [Tuple]) -> Result<Vec<&'a Tuple>, Memory
     Ok(lent)
 }
 
+// What lends a tuple of others.
+#[derive(Clone, Copy)]
+struct Lender<'a> {
+    tuple: &'a Tuple,
+}
+
+impl Lends for Lender<'_> {
+    ghost doc = { λ l. l.tuple.now };
+
+    fn tuple(&self) -> &Tuple {
+        self.tuple
+    }
+}
+
+fn lenders<'a>(alloc: Global, tuples: &'a [Tuple]) -> Result<Vec<Lender<'a>>, Memory> {
+    let mut lenders = Vec::new(alloc);
+    for tuple in tuples {
+        lenders.push(Lender { tuple })?;
+    }
+    Ok(lenders)
+}
+
+// The tuples that are lent, in their order.
+fn borrowed<'a>(alloc: Global, lenders: &[Lender<'a>]) -> Result<Vec<&'a Tuple>, Memory> {
+    let mut tuples = Vec::new(alloc);
+    for lender in lenders {
+        tuples.push(lender.tuple)?;
+    }
+    Ok(tuples)
+}
+
 fn lent_keep_their_order(alloc: Global, by: &SortSpec) -> Result<bool, Memory> {
     let tuples = tied(alloc)?.into_vec();
-    let sorted = sort_lent(lent(alloc, &tuples)?, by)?;
-    Ok(are_marked(&sorted, "v y w x z"))
+    let sorted = sort_lenders(lenders(alloc, &tuples)?, by)?;
+    Ok(are_marked(&borrowed(alloc, &sorted)?, "v y w x z"))
 }
 
 fn keep_their_order(alloc: Global, by: &SortSpec) -> Result<bool, Memory> {

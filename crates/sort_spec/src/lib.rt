@@ -6,6 +6,7 @@ mod fault;
 mod front;
 mod held;
 mod item;
+mod lends;
 mod pair;
 mod reader;
 mod rows;
@@ -15,7 +16,8 @@ mod term;
 
 pub use comparing::orders_are_weak;
 pub use fault::SortFault;
+pub use lends::Lends;
 pub use pair::{OnPair, OnSpec};
 pub use reader::{read_names, read_on, read_sort, readings_agree};
-pub use sorting::{sort_lent, sort_tuples};
+pub use sorting::{sort_lenders, sort_tuples};
 pub use term::{SortSpec, SortTerm};

@@ -1,86 +1,48 @@
-// Tuples with their values under the first terms of a sort.
+// What lends tuples, with their values under the first terms of a sort.
 ghost use Rattle.std.specs.Prelude.{◌≡◌, IfOk, map};
-ghost use Rattle.sort_spec.specs.Rows.{lent_row, owned_row, row_for};
+ghost use Rattle.sort_spec.specs.Rows.{row_in, row_for};
 
 use crate::SortTerm;
 use crate::front::Front;
+use crate::lends::Lends;
 use std::alloc::Global;
-use tuple_values::{Memory, Tuple};
+use tuple_values::Memory;
 
-/// A tuple that is lent, with its values.
+/// What lends a tuple, with the tuple's values.
 #[derive(Drop)]
-pub(crate) struct Lent<'a> {
+pub(crate) struct Fronted<T> {
     pub(crate) front: Front,
-    pub(crate) tuple: &'a Tuple,
+    pub(crate) item: T,
 }
 
-/// A tuple with its values.
-#[derive(Drop)]
-pub(crate) struct Owned {
-    pub(crate) front: Front,
-    pub(crate) tuple: Tuple,
-}
-
-// The row of a tuple that is lent.
-fn lent_row<'a>(terms: &[SortTerm], tuple: &'a Tuple) -> Lent<'a>
-    ensures { lent_row result ≡ row_for terms.now tuple.now }
-{
-    let front = Front::of(terms, tuple);
-    Lent { front, tuple }
-}
-
-/// The rows of tuples that are lent, in their order.
-pub(crate) fn lent_rows<'a>(
+/// The rows of what lends tuples, in their order. After an `Err` it is dropped.
+pub(crate) fn make_rows<T: Lends + Drop>(
     alloc: Global,
     terms: &[SortTerm],
-    tuples: &[&'a Tuple],
-) -> Result<Vec<Lent<'a>>, Memory>
-    ensures { IfOk result (λ rows. map lent_row rows.items
-        ≡ map (row_for terms.now) (map (λ d. d.now) tuples.now)) }
+    items: Vec<T>,
+) -> Result<Vec<Fronted<T>>, Memory>
+    ensures { IfOk result (λ rows. map (row_in T.doc) rows.items
+        ≡ map (row_for terms.now) (map T.doc items.items)) }
 {
-    let mut rows = Vec::with_capacity(alloc, tuples.len())?;
-    for k in 0..tuples.len() {
-        let tuple = tuples[k];
-        rows.push_reserved(lent_row(terms, tuple));
+    let mut rows = Vec::with_capacity(alloc, items.len())?;
+    for item in items {
+        let front = Front::of(terms, item.tuple());
+        rows.push(Fronted { front, item })?;
     }
     Ok(rows)
 }
 
-/// The tuples of rows, in their order.
-pub(crate) fn lent_tuples<'a>(alloc: Global, rows: &[Lent<'a>]) -> Result<Vec<&'a Tuple>, Memory>
-    ensures { IfOk result (λ tuples. map (λ d. d.now) tuples.items
-        ≡ map (λ row. row.1) (map lent_row rows.now)) }
-{
-    let mut tuples = Vec::with_capacity(alloc, rows.len())?;
-    for k in 0..rows.len() {
-        tuples.push(rows[k].tuple)?;
-    }
-    Ok(tuples)
-}
-
-/// The rows of tuples, in their order. After an `Err` the tuples are dropped.
-pub(crate) fn owned_rows(
+/// What lends the tuples of rows, in their order.
+pub(crate) fn take_items<T: Lends + Drop>(
     alloc: Global,
-    terms: &[SortTerm],
-    tuples: Vec<Tuple>,
-) -> Result<Vec<Owned>, Memory>
-    ensures { IfOk result (λ rows. map owned_row rows.items ≡ map (row_for terms.now) tuples.items) }
+    rows: Vec<Fronted<T>>,
+) -> Result<Vec<T>, Memory>
+    ensures { IfOk result (λ items. map T.doc items.items
+        ≡ map (λ row. row.1) (map (row_in T.doc) rows.items)) }
 {
-    let mut rows = Vec::with_capacity(alloc, tuples.len())?;
-    for tuple in tuples {
-        let front = Front::of(terms, &tuple);
-        rows.push(Owned { front, tuple })?;
-    }
-    Ok(rows)
-}
-
-/// The tuples of rows, in their order.
-pub(crate) fn owned_tuples(alloc: Global, rows: Vec<Owned>) -> Result<Vec<Tuple>, Memory>
-    ensures { IfOk result (λ tuples. tuples.items ≡ map (λ row. row.1) (map owned_row rows.items)) }
-{
-    let mut tuples = Vec::with_capacity(alloc, rows.len())?;
+    let mut items = Vec::with_capacity(alloc, rows.len())?;
     for row in rows {
-        tuples.push(row.tuple)?;
+        items.push(row.item)?;
     }
-    Ok(tuples)
+    Ok(items)
 }

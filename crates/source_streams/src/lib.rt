@@ -2,6 +2,7 @@
 #![tactic(auto)]
 
 mod batch;
+mod kept;
 mod part;
 mod scanned;
 mod search;

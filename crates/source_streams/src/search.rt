@@ -1,47 +1,54 @@
 // The source of a search.
-ghost use Rattle.std.specs.Prelude.{◌≡◌, ◌<◌, ◌++◌, IsOk, IsSome, IfOk, OnOk, map, filter, option_map};
+ghost use Rattle.std.specs.Prelude.{◌≡◌, ◌<◌, ◌++◌, IsSome, IfOk, OnErr, map, filter, option_map};
 ghost use Rattle.expr_types.specs.Parts.{search_parts};
 ghost use Rattle.expr_types.specs.Sources.{first_rows, then_by_id, cut_to};
 ghost use Rattle.source_streams.specs.Cuts.{documents_of};
+ghost use Rattle.source_streams.specs.Keeps.{doc_of};
 ghost use Rattle.source_streams.specs.Parts.{part_of, keys_of};
 ghost use Rattle.source_streams.specs.Reads.{IsNext, searched};
 ghost use Rattle.source_streams.specs.Wants.{is_wanted, early_part, late_part};
 
 use crate::Part;
+use crate::kept::Kept;
 use crate::part::keys_or_none;
 use crate::scanned::add_matching;
 use crate::wanted::Wanted;
 use expr_types::Expr;
+use shard_segments::Document;
 use shard_versions::{Cut, CutPart};
-use sort_spec::{SortSpec, SortTerm, sort_lent};
+use sort_spec::{Lends, SortSpec, SortTerm, sort_lenders};
 use std::alloc::Global;
 use std::collections::VecDeque;
 use std::marker::{Model, Sync};
 use std::thread::Threads;
 use tuple_values::{FieldList, Memory, Text, TryCopy, Tuple};
 
-/// The tuples of a search that are still to come. A contract sees the list of them.
+/// The tuples of a search that are still to come: their documents, which are shared with their shards,
+/// and the fields to which each is cut when it is read. A contract sees the list of the tuples.
 pub struct SearchCursor {
-    rest: VecDeque<Tuple>,
+    documents: VecDeque<Document>,
+    fl: FieldList,
 }
 
 impl Drop for SearchCursor {
     fn drop(self) {
-        let SearchCursor { rest } = self;
-        drop(rest);
+        let SearchCursor { documents, fl } = self;
+        drop(documents);
+        drop(fl);
     }
 }
 
 impl Model for SearchCursor {
-    ghost use Rattle.std.specs.Prelude.{List};
+    ghost use Rattle.std.specs.Prelude.{List, map};
     ghost use Rattle.tuple_values.specs.Document.{Doc};
     ghost use Rattle.tuple_values.specs.Codes.{docs_code};
+    ghost use Rattle.expr_types.specs.Sources.{cut_to};
 
     ghost Value = { List Doc };
 
     ghost coded = { docs_code };
 
-    ghost view = { λ s. s.rest.items };
+    ghost view = { λ s. map (cut_to s.fl) s.documents.items };
 }
 
 impl SearchCursor {
@@ -49,7 +56,7 @@ impl SearchCursor {
     /// matching documents, sorted by the search's sort and then by id, the first `rows`, each cut
     /// to `fl`. Looks at each document once, in several threads where there are many, takes some
     /// n log n comparisons of the n matching ones of the part (of all parts where there are `rows`),
-    /// and copies what it gives.
+    /// and copies no document.
     pub fn make<R: Threads + Sync>(
         rt: &R,
         alloc: Global,
@@ -81,18 +88,26 @@ impl SearchCursor {
         };
         let found = matching(rt, alloc, &wanted, collection, cut.as_slice())?;
         let by = by_id(alloc, sort)?;
-        let found = sort_lent(found, &by)?;
+        let found = sort_lenders(found, &by)?;
         let first = first_of(found.as_slice(), *rows);
-        let rest = cut_part(alloc, first, fl, wanted.keys, late_part(part, *rows))?;
-        Ok(SearchCursor { rest })
+        let documents = shared_part(alloc, first, fl, wanted.keys, late_part(part, *rows))?;
+        let fl = fl.copy(alloc)?;
+        Ok(SearchCursor { documents, fl })
     }
 
-    /// The next tuple; none exactly at the end, and from then on. Takes no memory.
+    /// The next tuple, which is copied; none exactly at the end, and from then on. An `Err` leaves all as
+    /// it was.
     pub fn read(&mut self) -> Result<Option<Tuple>, Memory>
         ensures next { IfOk result (λ next. IsNext self.old next self.new) }
-        ensures ok { IsOk result }
+        ensures err { OnErr result (self.new ≡ self.old) }
     {
-        Ok(self.rest.pop_front())
+        let Some(document) = self.documents.front() else {
+            return Ok(None);
+        };
+        let alloc = *self.documents.allocator();
+        let tuple = document.tuple().cut(alloc, &self.fl)?;
+        let _ = self.documents.pop_front();
+        Ok(Some(tuple))
     }
 }
 
@@ -102,8 +117,8 @@ fn matching<'a, R: Threads + Sync>(
     wanted: &Wanted,
     collection: &Text,
     cut: &'a [CutPart],
-) -> Result<Vec<&'a Tuple>, Memory>
-    ensures { IfOk result (λ found. map (λ d. d.now) found.items
+) -> Result<Vec<Kept<'a>>, Memory>
+    ensures { IfOk result (λ found. map doc_of found.items
         ≡ filter (is_wanted wanted.now.q.now.clauses wanted.now.fl.now wanted.now.keys.now
         wanted.now.part) (documents_of collection.now cut.now)) }
 {
@@ -153,8 +168,8 @@ fn by_id(alloc: Global, sort: &SortSpec) -> Result<SortSpec, Memory>
 }
 
 // The first so many, or all.
-fn first_of<'a, 'b>(found: &'b [&'a Tuple], rows: Option<u64>) -> &'b [&'a Tuple]
-    ensures { map (λ d. d.now) result.now ≡ first_rows rows (map (λ d. d.now) found.now) }
+fn first_of<'a, 'b>(found: &'b [Kept<'a>], rows: Option<u64>) -> &'b [Kept<'a>]
+    ensures { map doc_of result.now ≡ first_rows rows (map doc_of found.now) }
 {
     match rows {
         Some(n) if n < found.len() as u64 => &found[..n as usize],
@@ -162,24 +177,23 @@ fn first_of<'a, 'b>(found: &'b [&'a Tuple], rows: Option<u64>) -> &'b [&'a Tuple
     }
 }
 
-// The documents whose cuts are of the part, each cut to the fields.
-fn cut_part(
+// The documents whose cuts to the fields are of the part, once more. None is copied.
+fn shared_part(
     alloc: Global,
-    found: &[&Tuple],
+    found: &[Kept],
     fl: &FieldList,
     keys: &FieldList,
     part: Part,
-) -> Result<VecDeque<Tuple>, Memory>
+) -> Result<VecDeque<Document>, Memory>
     requires { part.index < part.of }
-    ensures { IfOk result (λ rest. rest.items
-        ≡ part_of part.index part.of keys.now (map (cut_to fl.now) (map (λ d. d.now) found.now))) }
+    ensures { IfOk result (λ documents. map (cut_to fl.now) documents.items
+        ≡ part_of part.index part.of keys.now (map (cut_to fl.now) (map doc_of found.now))) }
 {
-    let mut rest = VecDeque::with_capacity(alloc, found.len())?;
-    for document in found {
-        if part.holds(keys, fl, document) {
-            let tuple = document.cut(alloc, fl)?;
-            rest.push_back(tuple)?;
+    let mut documents = VecDeque::with_capacity(alloc, found.len())?;
+    for kept in found {
+        if part.holds(keys, fl, kept.tuple()) {
+            documents.push_back(kept.document.share()?)?;
         }
     }
-    Ok(rest)
+    Ok(documents)
 }

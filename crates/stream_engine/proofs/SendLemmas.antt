@@ -1,9 +1,11 @@
 -- A stream may go to another thread.
-use denote.Param.Send.{IsSend, sendable}
+use denote.Param.Send.{IsSend, IsSync, sendable}
 use denote.Param.SendFields.{variants_send}
 use Rattle.std.proofs.Crossing as heap
 use Rattle.tuple_values.proofs.value.Tuple.TheLaws.TheKnot as tuples
 use Rattle.expr_types.proofs.condition.Condition.TheLaws.TheKnot as conditions
+use Rattle.tuple_values.specs.contracts.value.Tuple as Tuple
+use Rattle.shard_segments.specs.contracts.slot.Document as Document
 use Rattle.source_streams.specs.contracts.search.SearchCursor as SearchCursor
 use Rattle.source_streams.specs.contracts.tuple_once.TupleOnce as TupleOnce
 use Rattle.row_kernels.specs.contracts.having.HavingKernel as HavingKernel
@@ -23,9 +25,16 @@ use Rattle.stream_engine.specs.contracts.fed.Fed as Fed
 use Rattle.stream_engine.specs.contracts.stream.Stream as Stream
 use Rattle.stream_engine.proofs.stream.Stream.TheLaws.TheKnot as streams
 
--- a search's cursor may
+-- a document may, which others share
+pub tuple_sync : IsSync Tuple.the_row
+tuple_sync = search (tuples.crosses, heap.crosses, sendable) depth 60 fits 20000
+
+pub document_send : IsSend Document.the_row
+document_send = search (tuple_send, tuple_sync, heap.crosses, sendable) depth 60 fits 20000
+
+-- and so a search's cursor
 pub cursor_send : IsSend SearchCursor.the_row
-cursor_send = search (tuples.crosses, heap.crosses, sendable) depth 60 fits 20000
+cursor_send = search (document_send, text_send, heap.crosses, sendable) depth 60 fits 20000
 
 -- and one tuple
 pub once_send : IsSend TupleOnce.the_row

@@ -1,11 +1,10 @@
 use Rattle.std.proofs.Common.{◌≡◌, ◌<◌, ℕ, [], Some, length, map, get_or, sym, ap, subst, ◌∙◌, arith}
 use Rattle.std.proofs.lemmas.List.{map-append}
-use Rattle.std.specs.Borrow.{Bor}
 use Rattle.std.specs.Prelude.{unwrap_or, slice_index}
 use Rattle.tuple_values.specs.Document.{Doc}
-use Rattle.tuple_values.specs.declared.value.Tuple.{Tuple}
 use Rattle.shard_segments.specs.declared.slot.Slot.{Slot}
 use Rattle.shard_segments.specs.Scans.{places_where}
+use Rattle.source_streams.specs.Keeps.{doc_of}
 use Rattle.source_streams.specs.Wants.{is_wanted, is_wanted_slot, IsFirstFrom}
 use Rattle.source_streams.proofs.FoundLemmas.{found_more, found_less}
 use Rattle.source_streams.proofs.ScannedLemmas.{passes_there, fails_there}
@@ -19,7 +18,7 @@ loop-k-preserved c =
     let of_slot = is_wanted_slot wanted.q.now.clauses wanted.fl.now wanted.keys.now wanted.part in
     let slots = c.args.snapshot.now.slots in
     let docs = c.args.snapshot.now.documents in
-    let before = map (λ d. d.now) c.loop-k.found.items in
+    let before = map doc_of c.loop-k.found.items in
     let k = c.loop-k.k in
     let at = c.first_from-at.result in
     let place = c.place-place.result in
@@ -39,10 +38,10 @@ loop-k-preserved c =
             let passes = passes_there of_slot slots place slot c.place-place.ensures.in_range is at
             (omega (arith, long, w.if-at-places.true))
             (sym (ap (λ r. slice_index r at) c.requires) ∙ w.if-places-at.true) in
-            let d = w.document.result.now in
-            rw (w.found-is, w.in_ok-push.ensures.items, map-append (λ (b : Bor Tuple). b.now))
-            (sym (found_more test before docs k d lt w.document.ensures
-            (ap test (w.document.ensures none) ∙ passes))
+            let d = doc_of w.kept_at.result in
+            rw (w.found-is, w.in_ok-push.ensures.items, map-append doc_of)
+            (sym (found_more test before docs k d lt w.kept_at.ensures
+            (ap test (w.kept_at.ensures none) ∙ passes))
             ∙ c.loop-k.invariant.1)
         | else-at-places w ↦
             let fails = fails_there of_slot slots place slot c.place-place.ensures.in_range is at first

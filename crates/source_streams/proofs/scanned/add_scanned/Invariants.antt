@@ -1,4 +1,5 @@
 use Rattle.std.proofs.Common.{◌≡◌, ◌≤◌, ◌++◌, length, map, filter, drop}
+use Rattle.source_streams.specs.Keeps.{doc_of}
 use Rattle.source_streams.specs.Wants.{is_wanted}
 use Rattle.source_streams.proofs.scanned.add_scanned.Given as goal
 
@@ -6,9 +7,9 @@ use Rattle.source_streams.proofs.scanned.add_scanned.Given as goal
 abbrev pub invariant-loop-k : goal.invariant-loop-k
 invariant-loop-k l =
     (l.at ≤ length l.places)
-    × (map (λ d. d.now) l.found.items
+    × (map doc_of l.found.items
     ++ filter (is_wanted l.wanted.q.now.clauses l.wanted.fl.now l.wanted.keys.now l.wanted.part)
     (map (λ d. d.1) (drop l.k l.snapshot.documents))
-    ≡ map (λ d. d.now) l.fn.found.items
+    ≡ map doc_of l.fn.found.items
     ++ filter (is_wanted l.wanted.q.now.clauses l.wanted.fl.now l.wanted.keys.now l.wanted.part)
     (map (λ d. d.1) l.snapshot.documents))

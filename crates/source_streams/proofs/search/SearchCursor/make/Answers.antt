@@ -10,7 +10,8 @@ unfolding search_list
 returns g c =
     let s = c.in-Search in
     rw (
-      c.in_ok-rest.ensures,
+      c.in_ok-fl.ensures,
+      c.in_ok-documents.ensures,
       s.is,
       searched-parts s.collection s.q s.fl s.sort s.rows s.partition_keys c.args.cut.now
           c.args.part,
