@@ -5,6 +5,7 @@ pub mod CommaLemmas
 pub mod KeyedLemmas
 pub mod ListLemmas
 pub mod ListRightLemmas
+pub mod NameSetLemmas
 pub mod OnceLemmas
 pub mod PairTextLemmas
 pub mod PartLemmas

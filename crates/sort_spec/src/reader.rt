@@ -4,15 +4,16 @@ ghost use Rattle.tuple_values.specs.Document.{ByteList};
 ghost use Rattle.sort_spec.specs.Agreement.{Agree};
 ghost use Rattle.sort_spec.specs.Fault.{IfPlaced, Answers};
 ghost use Rattle.sort_spec.specs.Grammar.{IsReadable, IsPlace};
-ghost use Rattle.sort_spec.specs.Texts.{IsSort, IsOn, IsNames, once};
+ghost use Rattle.sort_spec.specs.Texts.{IsSort, IsOn, IsNames};
 ghost use Rattle.sort_spec.specs.Reading.{behind, listed, sort_of, on_of, names_of};
 ghost use Rattle.sort_spec.specs.declared.term.SortTerm.{SortTerm};
 ghost use Rattle.sort_spec.specs.declared.pair.OnPair.{OnPair};
 
 use crate::item::Item;
+use crate::names::once;
 use crate::{OnPair, OnSpec, SortFault, SortSpec, SortTerm};
 use std::alloc::Global;
-use tuple_values::{FieldList, Memory, Sequence, Text};
+use tuple_values::{FieldList, Sequence};
 
 // Reads a piece that stands at a place of the text.
 fn read_at<I: Item>(alloc: Global, piece: &str, at: usize) -> Result<I, SortFault>
@@ -59,20 +60,6 @@ fn pairs_in(alloc: Global, text: &str) -> Result<OnSpec, SortFault>
     ensures { Answers (on_of text.now) result }
 {
     read_list(alloc, text)
-}
-
-// The names without those that stand before.
-#[tactic(auto, using(crate::proofs::OnceLemmas::once_steps))]
-fn once(alloc: Global, written: Sequence<Text>) -> Result<FieldList, Memory>
-    ensures { IfOk result (λ names. names ≡ once written) }
-{
-    let mut names = FieldList::new(alloc);
-    for name in written.into_vec() {
-        if !names.contains(name.as_str()) {
-            names.push(name)?;
-        }
-    }
-    Ok(names)
 }
 
 // The names that a text says.
