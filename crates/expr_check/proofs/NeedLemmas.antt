@@ -4,10 +4,15 @@ use Rattle.std.proofs.Common.{◌↔◌}
 use Rattle.std.proofs.Common.{if◌then◌else◌, refl, sym, ◌∙◌, ap}
 use Rattle.std.specs.Prelude.{bytes_eq}
 use Rattle.std.proofs.lemmas.Slice.Eq.{bytes_eq-Decides}
-use Rattle.tuple_values.specs.Document.{ByteList}
+use Rattle.std.proofs.Common.{Some}
+use Rattle.std.specs.List.{list_any}
+use Rattle.tuple_values.specs.Document.{ByteList, is_named}
 use Rattle.sort_spec.specs.Terms.{IsPrefix}
+use Rattle.sort_spec.specs.declared.pair.OnPair.{OnPair}
 use Rattle.sort_spec.specs.declared.term.SortTerm.{SortTerm}
+use Rattle.expr_check.specs.Faults.{field_outside}
 use Rattle.expr_check.specs.Needs.{same_term, are_first}
+use Rattle.expr_check.specs.Orders.{is_paired, joined_terms}
 
 -- both of two tests
 pub and_first : (a b : Bool) → (a && b) ≡ true → a ≡ true
@@ -103,3 +108,23 @@ pub are_first-is : (result : Bool) (terms others : List SortTerm)
 are_first-is result terms others h =
     test_by result (are_first terms others) h (are_first-prefix terms others)
     (λ p. ap (are_first terms) p.1 ∙ are_first-append terms p.0)
+
+-- by lists with the same names the same field is the first outside
+pub field_outside-same : (sort : List SortTerm) (names others : List ByteList)
+    → ((name : ByteList) → is_named name names ≡ is_named name others)
+    → field_outside sort names ≡ field_outside sort others
+field_outside-same [] names others same = refl
+field_outside-same (term ∷ sort) names others same =
+    let here = same term.field in
+    let more = field_outside-same sort names others same in
+    λ j. if here j then more j else Some term.field
+
+-- and the same terms are kept in a join
+pub joined_terms-same : (on : List OnPair) (names others : List ByteList) (sort : List SortTerm)
+    → ((name : ByteList) → is_named name names ≡ is_named name others)
+    → joined_terms on names sort ≡ joined_terms on others sort
+joined_terms-same on names others [] same = refl
+joined_terms-same on names others (term ∷ sort) same =
+    let here = same term.field in
+    let more = joined_terms-same on names others sort same in
+    λ j. if not (here j) || list_any (is_paired term.field) on then term ∷ more j else []

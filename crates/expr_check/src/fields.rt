@@ -1,12 +1,12 @@
 // The names of the fields that tuples have.
 ghost use Rattle.std.specs.Prelude.{◌≡◌, ◌++◌, [], IfOk, OnOk, codes, map};
-ghost use Rattle.sort_spec.specs.Texts.{once};
 ghost use Rattle.expr_types.specs.ExprTree.{first_or};
 ghost use Rattle.expr_check.specs.Fields.{keys_of, given_name, all_given, rolled_names};
 ghost use Rattle.expr_check.specs.Fields.{all_names, topic_names};
 ghost use Rattle.expr_check.specs.Reads.{with_name};
 
 use expr_types::{Item, Items, Metrics};
+use sort_spec::once;
 use std::alloc::Global;
 use tuple_values::{FieldList, Memory, Text, TryCopy, Tuple};
 
@@ -28,20 +28,6 @@ pub(crate) fn with_group(alloc: Global, mut names: FieldList) -> Result<FieldLis
         names.push(Text::of(alloc, "group")?)?;
     }
     Ok(names)
-}
-
-// The names without those that stand before.
-#[tactic(auto, using(sort_spec::proofs::OnceLemmas::once_steps))]
-fn once(alloc: Global, names: FieldList) -> Result<FieldList, Memory>
-    ensures { IfOk result (λ list. list ≡ once names) }
-{
-    let mut list = FieldList::new(alloc);
-    for name in names.into_vec() {
-        if !list.contains(name.as_str()) {
-            list.push(name)?;
-        }
-    }
-    Ok(list)
 }
 
 // Adds names at the end.

@@ -6,16 +6,16 @@ ghost use Rattle.expr_check.specs.Faults.{names_fault, sort_fault, first_fault};
 
 use crate::texts::{has_text, names_text, sort_text};
 use crate::{CheckFault, Order};
-use sort_spec::{SortSpec, SortTerm};
+use sort_spec::{NameSet, SortSpec, SortTerm};
 use std::alloc::Global;
 use tuple_values::{FieldList, Memory, Text, TryCopy};
 
 // The first field of a sort that isn't among the names.
-fn field_outside<'a>(sort: &'a SortSpec, fl: &FieldList) -> Option<&'a Text>
+fn field_outside<'a>(sort: &'a SortSpec, fl: &NameSet<'_>) -> Option<&'a Text>
     ensures { option_map (λ field. field.now) result ≡ field_outside sort.now fl.now }
 {
     for term in sort.as_slice() {
-        if !fl.contains(term.field.as_str()) {
+        if !fl.has(term.field.as_str()) {
             return Some(&term.field);
         }
     }
@@ -30,7 +30,8 @@ pub(crate) fn fields_fault(
 ) -> Result<Option<CheckFault>, Memory>
     ensures { IfOk result (λ fault. fault ≡ field_fault (field_outside sort.now fl.now)) }
 {
-    match field_outside(sort, fl) {
+    let among = NameSet::of(alloc, fl)?;
+    match field_outside(sort, &among) {
         None => Ok(None),
         Some(field) => {
             let field = field.copy(alloc)?;

@@ -8,7 +8,7 @@ ghost use Rattle.expr_check.specs.Orders.{is_paired, keeps_field, joined_terms, 
 use crate::Order;
 use crate::fields::given_name;
 use expr_types::{Item, Items};
-use sort_spec::{OnPair, OnSpec, SortSpec, SortTerm};
+use sort_spec::{NameSet, OnPair, OnSpec, SortSpec, SortTerm};
 use std::alloc::Global;
 use tuple_values::{FieldList, Memory, Text, TryCopy};
 
@@ -132,17 +132,17 @@ fn any_paired(field: &str, on: &[OnPair]) -> bool
 }
 
 // Whether a left field keeps its value in a join with tuples of these fields.
-fn keeps_field(on: &OnSpec, right: &FieldList, field: &str) -> bool
+fn keeps_field(on: &OnSpec, right: &NameSet<'_>, field: &str) -> bool
     ensures { result ≡ keeps_field on.now right.now field.now }
 {
-    !right.contains(field) || any_paired(field, on.as_slice())
+    !right.has(field) || any_paired(field, on.as_slice())
 }
 
 // The longest prefix of the terms whose fields keep their values.
 fn joined_terms(
     alloc: Global,
     on: &OnSpec,
-    right: &FieldList,
+    right: &NameSet<'_>,
     sort: &SortSpec,
 ) -> Result<SortSpec, Memory>
     ensures { IfOk result (λ kept. kept ≡ joined_terms on.now right.now sort.now) }
@@ -168,6 +168,9 @@ pub(crate) fn joined_order(
 {
     match left {
         Order::Any => Ok(Order::By(SortSpec::new(alloc))),
-        Order::By(sort) => Ok(Order::By(joined_terms(alloc, on, right, sort)?)),
+        Order::By(sort) => {
+            let among = NameSet::of(alloc, right)?;
+            Ok(Order::By(joined_terms(alloc, on, &among, sort)?))
+        }
     }
 }
