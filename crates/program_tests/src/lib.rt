@@ -1,4 +1,4 @@
-//! Tests of the whole program and of its handler: runs in memory, with replies worked out by hand.
+//! Tests of the whole program: runs in memory, with replies worked out by hand.
 #![tactic(auto)]
 
 #[cfg(test)]
@@ -12,19 +12,11 @@ mod of_eval_limits;
 #[cfg(test)]
 mod of_loopback;
 #[cfg(test)]
-mod of_pass_calls;
-#[cfg(test)]
 mod of_readme;
-#[cfg(test)]
-mod of_runs;
 #[cfg(test)]
 mod of_scripts;
 #[cfg(test)]
 mod of_serve;
-#[cfg(test)]
-mod of_shared_board;
-#[cfg(test)]
-mod of_stream_handler;
 #[cfg(test)]
 mod of_topics;
 #[cfg(test)]

@@ -1,8 +1,10 @@
 // A daemon in whole runs of a script, with responses that were worked out by hand.
 ghost use Rattle.std.specs.Prelude.{◌<◌};
 
-use crate::running::{Wanted, a_run, add_all, is_so};
-use crate::samples::UPDATED;
+use crate::running::{Wanted, a_run, is_so};
+use handler_tests::daemons::{KILL, LIST, RESUME, START, STARTED, STOP, STOPPED, UNKNOWN};
+use handler_tests::joining::add_all;
+use handler_tests::samples::UPDATED;
 use io_edge::{MemorySource, NoGate};
 use std::alloc::Global;
 use std::sync::Wait;
@@ -11,25 +13,8 @@ use std::thread::Threads;
 use std::time::Clock as SystemClock;
 use tuple_values::{Bytes, Memory, Numbers};
 
-pub(crate) const START: &str =
-    "POST /solr/src/stream HTTP/1.1\r\nContent-Type: application/x-www-form-urlencoded\r\n\
-     Content-Length: 202\r\n\r\n\
-     expr=daemon(id%3D%22d1%22,runInterval%3D%221000%22,terminate%3D%22false%22,update(dest,batchSize\
-     %3D100,topic(ck,src,id%3D%22t%22,q%3D%22n_i:%5B100+TO+299%5D%22,fl%3D%22id,n_i%22,initialCheckpo\
-     int%3D0)))";
-
-pub(crate) const STARTED: &str =
-    "HTTP/1.1 200 OK\r\nContent-Type: application/json\r\nTransfer-Encoding: chunked\r\n\r\n52\r\n{\"result-set\":{\"docs\":[{\"DaemonOp\":\"started d1\"},{\"EOF\":true,\"RESPONSE_TIME\":0}]}}\r\n0\r\n\r\n";
-
-pub(crate) const LIST: &str = "GET /solr/src/stream?action=list HTTP/1.1\r\n\r\n";
-
 const LISTED: &str =
     "HTTP/1.1 200 OK\r\nContent-Type: application/json\r\nTransfer-Encoding: chunked\r\n\r\n65\r\n{\"result-set\":{\"docs\":[{\"id\":\"d1\",\"iterations\":1,\"state\":\"RUNNING\"},{\"EOF\":true,\"RESPONSE_TIME\":0}]}}\r\n0\r\n\r\n";
-
-pub(crate) const STOP: &str = "GET /solr/src/stream?action=stop&id=d1 HTTP/1.1\r\n\r\n";
-
-pub(crate) const STOPPED: &str =
-    "HTTP/1.1 200 OK\r\nContent-Type: application/json\r\nTransfer-Encoding: chunked\r\n\r\n52\r\n{\"result-set\":{\"docs\":[{\"DaemonOp\":\"stopped d1\"},{\"EOF\":true,\"RESPONSE_TIME\":0}]}}\r\n0\r\n\r\n";
 
 const PUT_ONE_MORE: &str =
     "POST /solr/src/update?commit=true HTTP/1.1\r\nContent-Length: 24\r\n\r\n[{\"id\":\"500\",\"n_i\":150}]";
@@ -40,15 +25,8 @@ const COUNT: &str =
 const DELIVERED: &str =
     "HTTP/1.1 200 OK\r\nContent-Type: application/json\r\nTransfer-Encoding: chunked\r\n\r\n58\r\n{\"result-set\":{\"docs\":[{\"_src_s\":\"src\",\"count(*)\":200},{\"EOF\":true,\"RESPONSE_TIME\":0}]}}\r\n0\r\n\r\n";
 
-pub(crate) const RESUME: &str = "GET /solr/src/stream?action=start&id=d1 HTTP/1.1\r\n\r\n";
-
 const DELIVERED_MORE: &str =
     "HTTP/1.1 200 OK\r\nContent-Type: application/json\r\nTransfer-Encoding: chunked\r\n\r\n58\r\n{\"result-set\":{\"docs\":[{\"_src_s\":\"src\",\"count(*)\":201},{\"EOF\":true,\"RESPONSE_TIME\":0}]}}\r\n0\r\n\r\n";
-
-pub(crate) const KILL: &str = "GET /solr/src/stream?action=kill&id=d9 HTTP/1.1\r\n\r\n";
-
-pub(crate) const UNKNOWN: &str =
-    "HTTP/1.1 200 OK\r\nContent-Type: application/json\r\nTransfer-Encoding: chunked\r\n\r\n57\r\n{\"result-set\":{\"docs\":[{\"EOF\":true,\"EXCEPTION\":\"UnknownDaemon d9\",\"RESPONSE_TIME\":0}]}}\r\n0\r\n\r\n";
 
 const NEITHER: &str = "GET /solr/src/stream HTTP/1.1\r\n\r\n";
 

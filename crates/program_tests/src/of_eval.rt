@@ -1,15 +1,13 @@
 // Whole runs of expressions, with replies that were worked out by hand.
-use crate::running::{Wanted, joined, leaves};
+use crate::running::{Wanted, leaves};
+use handler_tests::joining::joined;
+use handler_tests::samples::{END, OPENING};
 use std::alloc::Global;
 use std::sync::Wait;
 use std::test::Fail;
 use std::thread::Threads;
 use std::time::Clock as SystemClock;
 use tuple_values::{Bytes, Memory};
-
-pub(crate) const OPENING: &str = "{\"result-set\":{\"docs\":[";
-
-pub(crate) const END: &str = "{\"EOF\":true,\"RESPONSE_TIME\":0}]}}";
 
 const EXCEPTION: &str = "{\"EOF\":true,\"EXCEPTION\":\"";
 

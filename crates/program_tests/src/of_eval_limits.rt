@@ -1,6 +1,8 @@
 // Expressions at their limits, and reads and writes that fail.
-use crate::of_eval::{END, OPENING, gives, tells};
-use crate::running::{Failing, a_run, fails, source};
+use crate::of_eval::{gives, tells};
+use crate::running::{Failing, a_run, fails};
+use handler_tests::joining::source;
+use handler_tests::samples::{END, OPENING};
 use io_edge::NoGate;
 use std::alloc::Global;
 use std::sync::Wait;

@@ -1,5 +1,6 @@
 // A test of the command `serve` at a real door: an expression is answered over TCP.
-use crate::running::{is_joined, words_of};
+use crate::running::words_of;
+use handler_tests::joining::is_joined;
 use io_edge::{MemorySink, MemorySource, NoGate};
 use server_edge::{Door, Listen, Next, NoClock, SharedListener, TcpDoor};
 use std::alloc::Global;

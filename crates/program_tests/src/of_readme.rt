@@ -1,7 +1,8 @@
 // The examples of the README, with the replies that stand there.
 use crate::of_eval::{gives, tells};
-use crate::running::{Wanted, answers, joined};
-use crate::samples::UPDATED;
+use crate::running::{Wanted, answers};
+use handler_tests::joining::joined;
+use handler_tests::samples::UPDATED;
 use std::alloc::Global;
 use std::sync::Wait;
 use std::test::Fail;

@@ -1,6 +1,7 @@
 // Tests of the command `serve`: that workers and runners are at work at once, over doors in memory.
-use crate::of_stream_handler::UPDATED;
-use crate::running::{TestDoor, is_joined, joined, row_of, words_of};
+use crate::running::{TestDoor, row_of, words_of};
+use handler_tests::joining::{is_joined, joined};
+use handler_tests::samples::UPDATED;
 use io_edge::{Gate, MemorySink, MemorySource, NoGate, Point};
 use server_edge::{Connection, MemoryDoor, NoClock};
 use shard_versions::{Entry, Kind, Step, id_of};

@@ -1,6 +1,7 @@
 // Topics, updates and commits in whole runs of scripts, with responses that were worked out by hand.
 use crate::running::{Wanted, answers};
-use crate::samples::{NONE, UPDATED};
+use crate::samples::NONE;
+use handler_tests::samples::UPDATED;
 use std::alloc::Global;
 use std::sync::Wait;
 use std::test::Fail;

@@ -1,6 +1,7 @@
 // Words that are no command: a line refuses them, or a text that tells why; or they ask for a text,
 // which is shown.
-use crate::running::{Failing, Ran, Wanted, a_run, fails, joined, leaves, source};
+use crate::running::{Failing, Ran, Wanted, a_run, fails, leaves};
+use handler_tests::joining::{joined, source};
 use io_edge::NoGate;
 use std::alloc::Global;
 use std::sync::Wait;

@@ -1,4 +1,5 @@
 // Runs in memory, and what they are compared with.
+use handler_tests::joining::{is_joined, joined, numbers_of, source};
 use io_edge::{Gate, MemorySink, MemorySource, NoGate};
 use server_edge::{MemoryDoor, NoClock};
 use std::alloc::Global;
@@ -35,14 +36,6 @@ fn calls_of(failing: Failing) -> (Option<u64>, Option<u64>) {
     }
 }
 
-fn numbers_of(alloc: Global, call: Option<u64>) -> Result<Numbers, Memory> {
-    let mut numbers = Numbers::new(alloc);
-    if let Some(call) = call {
-        numbers.push(call)?;
-    }
-    Ok(numbers)
-}
-
 fn add_words(alloc: Global, list: &mut Words, words: &str) -> Result<(), Memory> {
     for word in words.split_whitespace() {
         list.push(Text::of(alloc, word)?)?;
@@ -55,44 +48,6 @@ pub(crate) fn words_of(alloc: Global, words: &str) -> Result<Words, Memory> {
     let mut list = Words::new(alloc);
     add_words(alloc, &mut list, words)?;
     Ok(list)
-}
-
-/// Adds pieces, one behind another.
-pub(crate) fn add_all(bytes: &mut Bytes, pieces: &[&str]) -> Result<(), Memory> {
-    for piece in pieces {
-        bytes.extend(piece.as_bytes())?;
-    }
-    Ok(())
-}
-
-/// The bytes of these pieces, one behind another.
-pub(crate) fn joined(alloc: Global, pieces: &[&str]) -> Result<Bytes, Memory> {
-    let mut bytes = Bytes::new(alloc);
-    add_all(&mut bytes, pieces)?;
-    Ok(bytes)
-}
-
-/// Whether the bytes are these pieces, one behind another.
-pub(crate) fn is_joined(bytes: &[u8], pieces: &[&str]) -> bool {
-    let mut rest = bytes;
-    for piece in pieces {
-        let piece = piece.as_bytes();
-        if !rest.starts_with(piece) {
-            return false;
-        }
-        rest = &rest[piece.len()..];
-    }
-    rest.is_empty()
-}
-
-/// An input of these bytes, of which at most five come at once; this call of it fails.
-pub(crate) fn source(
-    alloc: Global,
-    bytes: Bytes,
-    failing: Option<u64>,
-) -> Result<MemorySource, Memory> {
-    let calls = numbers_of(alloc, failing)?;
-    Ok(MemorySource::new(bytes, 5, calls))
 }
 
 fn not_ran(alloc: Global, failing: Option<u64>) -> Result<Ran, Memory> {

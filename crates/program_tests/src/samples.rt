@@ -1,9 +1,5 @@
 // Requests of scripts and the responses to them, worked out by hand.
 
-pub(crate) const UPDATED: &str =
-    "HTTP/1.1 200 OK\r\nContent-Type: application/json\r\nContent-Length: 41\r\n\r\n\
-     {\"responseHeader\":{\"status\":0,\"QTime\":0}}";
-
 pub(crate) const ONE: &str =
     "HTTP/1.1 200 OK\r\nContent-Type: application/json\r\nTransfer-Encoding: chunked\r\n\r\n\
      4b\r\n{\"result-set\":{\"docs\":[{\"id\":\"1\",\"n_i\":5},{\"EOF\":true,\"RESPONSE_TIME\":0}]}}\r\n0\r\n\r\n";

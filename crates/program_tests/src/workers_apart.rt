@@ -1,6 +1,8 @@
 // A test of two workers of a parallel, which run side by side.
-use crate::running::{Wanted, a_run, is_so, joined, source};
-use crate::samples::{GROUPS, PUT_THREE, TWO_WORKERS, UPDATED};
+use crate::running::{Wanted, a_run, is_so};
+use crate::samples::{GROUPS, PUT_THREE, TWO_WORKERS};
+use handler_tests::joining::{joined, source};
+use handler_tests::samples::UPDATED;
 use io_edge::{Gate, Point};
 use std::alloc::Global;
 use std::sync::Wait;

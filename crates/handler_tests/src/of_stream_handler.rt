@@ -3,7 +3,8 @@
 ghost use Rattle.std.specs.Prelude.{IfOk};
 ghost use Rattle.running_site.specs.Sites.{IsPassAt};
 
-use crate::running::{is_joined, joined};
+use crate::joining::{is_joined, joined};
+use crate::samples::{FOUND, SEARCH, UPDATE, UPDATED};
 use daemon_board::Board;
 use io_edge::{MemorySink, MemorySource, NoGate};
 use running_site::{Pass, Site, SiteOf};
@@ -62,22 +63,8 @@ fn has(served: &SessionEnd, number: usize, looks: usize, steps: usize) -> bool {
     }
 }
 
-pub(crate) const UPDATE: &str =
-    "POST /solr/c/update?commit=true HTTP/1.1\r\nContent-Length: 20\r\n\r\n\
-     [{\"id\":\"1\",\"n_i\":5}]";
-
-pub(crate) const SEARCH: &str = "GET /solr/c/stream?expr=search(c,q%3D%22*:*%22,fl%3D%22id%22,\
-     sort%3D%22id+asc%22) HTTP/1.0\r\n\r\n";
-
-pub(crate) const UPDATED: &str = "HTTP/1.1 200 OK\r\nContent-Type: application/json\r\n\
-     Content-Length: 41\r\n\r\n{\"responseHeader\":{\"status\":0,\"QTime\":0}}";
-
 const UPDATED_IN_7: &str = "HTTP/1.1 200 OK\r\nContent-Type: application/json\r\n\
      Content-Length: 41\r\n\r\n{\"responseHeader\":{\"status\":0,\"QTime\":7}}";
-
-pub(crate) const FOUND: &str = "HTTP/1.1 200 OK\r\nContent-Type: application/json\r\n\
-     Content-Length: 67\r\nConnection: close\r\n\r\n\
-     {\"result-set\":{\"docs\":[{\"id\":\"1\"},{\"EOF\":true,\"RESPONSE_TIME\":0}]}}";
 
 // Whether two requests were answered, and the second asked to close.
 fn is_closed(served: &SessionEnd) -> bool {

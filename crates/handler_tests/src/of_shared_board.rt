@@ -3,8 +3,8 @@
 ghost use Rattle.std.specs.Prelude.{IfOk};
 ghost use Rattle.running_site.specs.Sites.{IsPassAt};
 
-use crate::of_daemons::{KILL, LIST, RESUME, START, STARTED, STOP, STOPPED, UNKNOWN};
-use crate::running::{is_joined, joined};
+use crate::daemons::{KILL, LIST, RESUME, START, STARTED, STOP, STOPPED, UNKNOWN};
+use crate::joining::{is_joined, joined};
 use daemon_board::{Board, Daemons, SharedBoard};
 use form_request::Requests;
 use io_edge::{MemorySink, MemorySource, NoGate};

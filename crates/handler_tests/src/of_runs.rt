@@ -6,7 +6,7 @@ ghost use Rattle.expr_check.specs.Views.{tree_of};
 ghost use Rattle.running_site.specs.Sites.{IsPassAt};
 ghost use Rattle.update_sink.specs.Topics.{IsThere};
 
-use crate::running::{is_joined, joined};
+use crate::joining::{is_joined, joined};
 use daemon_board::{Board, Daemons};
 use expr_check::{Checked, Root, Roots, TopicRoot};
 use expr_text::read_checked;

@@ -1,6 +1,7 @@
 // Tests of pass_calls: a door whose connections are served by one pass, one after another.
-use crate::of_stream_handler::{FOUND, SEARCH, UPDATE, UPDATED, alone};
-use crate::running::{is_joined, joined};
+use crate::joining::{is_joined, joined};
+use crate::of_stream_handler::alone;
+use crate::samples::{FOUND, SEARCH, UPDATE, UPDATED};
 use daemon_board::Board;
 use io_edge::{MemorySink, MemorySource, NoGate};
 use pass_calls::{DoorEnd, serve_door};
