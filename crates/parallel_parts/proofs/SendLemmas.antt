@@ -11,7 +11,6 @@ use Rattle.sort_spec.specs.contracts.pair.OnPair as OnPair
 use Rattle.sort_spec.specs.contracts.term.SortSpec as SortSpec
 use Rattle.tuple_values.specs.contracts.sequence.Sequence as Sequence
 use Rattle.tuple_values.specs.contracts.text.Text as Text
-use Rattle.tuple_values.specs.contracts.value.Tuple as Tuple
 use Rattle.tuple_values.specs.contracts.value.Value as Value
 use Rattle.query_syntax.specs.contracts.query.Query as Query
 use Rattle.shard_segments.specs.contracts.chunks.Chunks as Chunks
