@@ -5,14 +5,11 @@ use Rattle.std.proofs.Common.{if◌then◌else◌, refl, sym, ◌∙◌, ap}
 use Rattle.std.specs.Prelude.{bytes_eq}
 use Rattle.std.proofs.lemmas.Slice.Eq.{bytes_eq-Decides}
 use Rattle.std.proofs.Common.{Some}
-use Rattle.std.specs.List.{list_any}
 use Rattle.tuple_values.specs.Document.{ByteList, is_named}
 use Rattle.sort_spec.specs.Terms.{IsPrefix}
-use Rattle.sort_spec.specs.declared.pair.OnPair.{OnPair}
 use Rattle.sort_spec.specs.declared.term.SortTerm.{SortTerm}
 use Rattle.expr_check.specs.Faults.{field_outside}
 use Rattle.expr_check.specs.Needs.{same_term, are_first}
-use Rattle.expr_check.specs.Orders.{is_paired, joined_terms}
 
 -- both of two tests
 pub and_first : (a b : Bool) → (a && b) ≡ true → a ≡ true
@@ -118,13 +115,3 @@ field_outside-same (term ∷ sort) names others same =
     let here = same term.field in
     let more = field_outside-same sort names others same in
     λ j. if here j then more j else Some term.field
-
--- and the same terms are kept in a join
-pub joined_terms-same : (on : List OnPair) (names others : List ByteList) (sort : List SortTerm)
-    → ((name : ByteList) → is_named name names ≡ is_named name others)
-    → joined_terms on names sort ≡ joined_terms on others sort
-joined_terms-same on names others [] same = refl
-joined_terms-same on names others (term ∷ sort) same =
-    let here = same term.field in
-    let more = joined_terms-same on names others sort same in
-    λ j. if not (here j) || list_any (is_paired term.field) on then term ∷ more j else []

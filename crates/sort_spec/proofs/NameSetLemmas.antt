@@ -54,7 +54,8 @@ module _ {K : Type 0} (bytes : K → ByteList) where
             → is_named name (map bytes (insert_key key_cmp keys new))
             ≡ (bytes_eq (bytes new) name || is_named name (map bytes keys))
             → is_named name (map bytes
-            (match_ordering order (new ∷ key ∷ keys) (key ∷ keys) (key ∷ insert_key key_cmp keys new)))
+            (match_ordering order (new ∷ key ∷ keys) (key ∷ keys)
+            (key ∷ insert_key key_cmp keys new)))
             ≡ (bytes_eq (bytes new) name || is_named name (map bytes (key ∷ keys)))
         by Less e later = refl
         by Equal e later =
