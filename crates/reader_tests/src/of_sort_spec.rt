@@ -336,6 +336,60 @@ fn ties_keep_their_order(rt: HostRuntime) {
     assert!(rt; ties_are_kept(rt.alloc()));
 }
 
+// So many that they are sorted in three runs. The n-th has the key 7,919 n mod 101, so that each key comes up
+// in each run.
+const MANY: u64 = 140_000;
+
+fn key_of(n: u64) -> i64 {
+    (n * 7_919 % 101) as i64
+}
+
+fn push_many(alloc: Global, tuples: &mut Tuples) -> Result<(), Memory> {
+    for n in 0..MANY {
+        tuples.push(tuple_of(alloc, Plain::Long(key_of(n)), Plain::Long(n as i64))?)?;
+    }
+    Ok(())
+}
+
+fn long_of(tuple: &Tuple, name: &str) -> i64 {
+    match tuple.get(name) {
+        Some(Value::Long(n)) => *n,
+        _ => -1,
+    }
+}
+
+// Whether the keys rise, the marks of each rise, and each mark is that of its key.
+fn are_many_sorted(tuples: &[Tuple]) -> bool {
+    let mut before = (-1, -1);
+    for tuple in tuples {
+        let here = (long_of(tuple, "a"), long_of(tuple, "b"));
+        if here <= before || here.1 < 0 || here.0 != key_of(here.1 as u64) {
+            return false;
+        }
+        before = here;
+    }
+    tuples.len() as u64 == MANY
+}
+
+fn many_in_order(alloc: Global, by: &SortSpec) -> Result<bool, Memory> {
+    let mut tuples = Tuples::empty(alloc);
+    push_many(alloc, &mut tuples)?;
+    let sorted = sort_tuples(tuples, by)?.into_vec();
+    Ok(are_many_sorted(sorted.as_slice()))
+}
+
+fn many_keep_their_order(alloc: Global) -> bool {
+    match read_sort(alloc, "a asc") {
+        Ok(by) => many_in_order(alloc, &by) == Ok(true),
+        Err(_) => false,
+    }
+}
+
+#[test]
+fn ties_of_several_runs_keep_their_order(rt: HostRuntime) {
+    assert!(rt; many_keep_their_order(rt.alloc()));
+}
+
 fn has_text(alloc: Global, fault: SortFault, want: &str) -> bool {
     match fault.text(alloc) {
         Ok(text) => text.as_str() == want,

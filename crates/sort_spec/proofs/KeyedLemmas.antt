@@ -105,7 +105,7 @@ abbrev pub row_less : List SortTerm → Row → Row → Bool
 row_less terms a b = is_lt (row_cmp terms a b)
 
 -- which for the rows of documents is the order of the documents
-row_less-for : (terms : List SortTerm) (a b : Doc)
+pub row_less-for : (terms : List SortTerm) (a b : Doc)
     → row_less terms (row_for terms a) (row_for terms b) ≡ less terms a b
 unfolding less
 row_less-for terms a b = ap is_lt (rows_agree terms a b)

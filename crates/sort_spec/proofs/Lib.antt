@@ -11,6 +11,7 @@ pub mod PairTextLemmas
 pub mod PartLemmas
 pub mod PieceLemmas
 pub mod RightLemmas
+pub mod RunLemmas
 pub mod ScanLemmas
 pub mod SortLemmas
 pub mod StableLemmas

@@ -5,6 +5,7 @@ pub mod Grammar
 pub mod Held
 pub mod Reading
 pub mod Rows
+pub mod Runs
 pub mod Scan
 pub mod Sorting
 pub mod Terms

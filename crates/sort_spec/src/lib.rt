@@ -11,6 +11,7 @@ mod names;
 mod pair;
 mod reader;
 mod rows;
+mod runs;
 mod scan;
 mod sorting;
 mod term;

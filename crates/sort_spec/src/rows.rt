@@ -15,6 +15,16 @@ pub(crate) struct Fronted<T> {
     pub(crate) item: T,
 }
 
+impl<T: Lends + Drop> Fronted<T> {
+    /// What lends a tuple, with its values.
+    pub(crate) fn of(terms: &[SortTerm], item: T) -> Fronted<T>
+        ensures { row_in T.doc result ≡ row_for terms.now (T.doc item) }
+    {
+        let front = Front::of(terms, item.tuple());
+        Fronted { front, item }
+    }
+}
+
 /// The rows of what lends tuples, in their order. After an `Err` it is dropped.
 pub(crate) fn make_rows<T: Lends + Drop>(
     alloc: Global,
@@ -26,8 +36,7 @@ pub(crate) fn make_rows<T: Lends + Drop>(
 {
     let mut rows = Vec::with_capacity(alloc, items.len())?;
     for item in items {
-        let front = Front::of(terms, item.tuple());
-        rows.push(Fronted { front, item })?;
+        rows.push(Fronted::of(terms, item))?;
     }
     Ok(rows)
 }

@@ -6,15 +6,14 @@ use Rattle.tuple_values.specs.Document.{Doc}
 use Rattle.sort_spec.specs.Fronts.{Row}
 use Rattle.sort_spec.specs.Rows.{row_in}
 use Rattle.sort_spec.specs.Sorting.{ins_sort}
-use Rattle.sort_spec.specs.Terms.{less}
 use Rattle.sort_spec.specs.declared.rows.Fronted.{Fronted}
 use Rattle.sort_spec.proofs.KeyedLemmas.{row_cmp_total, row_less, ins_sort-map, sorted_rows}
 use Rattle.sort_spec.proofs.StableLemmas.{stable_sort}
-use Rattle.sort_spec.proofs.sorting.sort_lenders.Goals as goal
+use Rattle.sort_spec.proofs.sorting.sort_run.Goals as goal
 
 pub returns : goal.returns
 returns g c =
-    let terms = c.as_slice-terms.result.now in
+    let terms = c.args.terms.now in
     let rows = c.in_ok-rows.rows.items in
     let doc = g.T.Lends.doc in
     let row : Fronted _ → Row = row_in doc in
@@ -29,4 +28,3 @@ returns g c =
     ∙ ap (map document) (ins_sort-map (row_less terms) row rows)
     ∙ ap (λ made. map document (ins_sort (row_less terms) made)) c.in_ok-rows.ensures
     ∙ sorted_rows terms (map doc c.args.items.items)
-    ∙ ap (λ by. ins_sort (less by) (map doc c.args.items.items)) c.as_slice-terms.ensures
