@@ -341,7 +341,7 @@ fn ties_keep_their_order(rt: HostRuntime) {
 const MANY: u64 = 140_000;
 
 fn key_of(n: u64) -> i64 {
-    (n * 7_919 % 101) as i64
+    (n.wrapping_mul(7_919) % 101) as i64
 }
 
 fn push_many(alloc: Global, tuples: &mut Tuples) -> Result<(), Memory> {
