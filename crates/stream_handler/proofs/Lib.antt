@@ -8,6 +8,7 @@ pub mod WireLemmas
 pub mod WaitLemmas
 pub mod SoundLemmas
 pub mod ChunkLemmas
+pub mod CarryLemmas
 pub mod ReplyLemmas
 pub mod ServeLemmas
 pub mod OneLemmas

@@ -1,5 +1,6 @@
 -- Bodies that go in chunks (RFC 9112, section 7.1; what goes as one chunk is own).
-use Rattle.std.specs.Prelude.{ℕ, List, [], ◌∷◌, ◌++◌, false, length, nat_le, codes, if◌then◌else◌}
+use Rattle.std.specs.Prelude.{◌≡◌, ◌≢◌, ℕ, List, [], ◌∷◌, ◌++◌, false, length, nat_le, codes, if◌then◌else◌}
+use Rattle.std.specs.List.{AllByRecursion, concat}
 use Rattle.std.specs.Fmt.{digits}
 use Rattle.tuple_values.specs.Document.{ByteList}
 
@@ -28,3 +29,16 @@ chunks_from bytes (piece ∷ pieces) =
     if nat_le chunk_least (length (bytes ++ piece))
     then chunk (bytes ++ piece) ∷ chunks_from [] pieces
     else chunks_from (bytes ++ piece) pieces
+
+-- the bytes of chunks with these parts, and of the last
+abbrev pub chunks_with : List ByteList → ByteList
+chunks_with [] = last_chunk
+chunks_with (part ∷ parts) = chunk part ++ chunks_with parts
+
+-- the bytes are chunks, of which none but the last is empty, and what they carry is, in a row, this
+-- (RFC 9112, section 7.1: chunks without extensions, no trailers)
+pub record IsChunked (bytes carried : ByteList) : Type 0 where
+  pub parts : List ByteList
+  pub bytes_are : bytes ≡ chunks_with parts
+  pub joined : concat parts ≡ carried
+  pub none_empty : AllByRecursion (λ part. part ≢ []) parts

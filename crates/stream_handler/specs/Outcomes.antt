@@ -1,11 +1,11 @@
 -- What a request is answered (own).
-use Rattle.std.specs.Prelude.{ℕ, Bool, false, List, [], ◌∷◌, Option, Some, if◌then◌else◌}
+use Rattle.std.specs.Prelude.{◌≡◌, ℕ, Bool, false, List, [], ◌∷◌, ◌++◌, Option, Some, if◌then◌else◌}
 use Rattle.std.specs.List.{concat}
 use Rattle.tuple_values.specs.Document.{ByteList, Doc}
 use Rattle.form_request.specs.declared.request.Request.{Request}
 use Rattle.json_text.specs.Pieces.{pieces_of}
 use Rattle.json_text.specs.Replies.{body, update_body, error_body}
-use Rattle.stream_handler.specs.Chunks.{chunks_from}
+use Rattle.stream_handler.specs.Chunks.{chunks_from, IsChunked}
 use Rattle.stream_handler.specs.Responses.{chunked_head, response}
 use Rattle.stream_handler.specs.declared.framing.Framing.{Framing}
 use Rattle.stream_handler.specs.declared.outcome.Outcome.{Outcome}
@@ -55,3 +55,11 @@ reply_of f millis outcome = concat (items_for f millis outcome)
 -- an exception alone
 abbrev pub exception : ByteList → Outcome
 exception text = ResultSet [] (Some text)
+
+-- behind the head of a response in chunks, what the chunks carry is the body that it would have whole
+abbrev pub ChunksCarryTheBody : Type 0
+ChunksCarryTheBody =
+    (closes : Bool) (docs : List Doc) (exception : Option ByteList) (millis : ℕ)
+    → (chunks : ByteList)
+    × (concat (chunked closes docs exception millis) ≡ chunked_head closes ++ chunks)
+    × IsChunked chunks (body docs exception millis)

@@ -29,7 +29,7 @@ pub use ending::{End, OneEnd, SessionEnd};
 pub use exchange::{Answered, Exchange, Exchanges, answer};
 pub use expression::{run_expression, run_plain_expression};
 pub use framing::Framing;
-pub use laws::requests_look_first;
+pub use laws::{chunks_carry_the_body, requests_look_first};
 pub use outcome::Outcome;
 pub use reply::Reply;
 pub use request::run_request;
