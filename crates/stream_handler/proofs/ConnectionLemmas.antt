@@ -262,7 +262,7 @@ within_few names old new answers end.Closed less opens = omega (arith, less)
 within_few names old new answers (end.Cut held) less opens = (less, opens)
 within_few names old new answers (end.Refused status) less opens = (less, opens)
 within_few names old new answers end.ReadFault less opens = (less, opens)
-within_few names old new answers end.WriteFault less opens = omega (arith, less)
+within_few names old new answers end.WriteFault less opens = inl (less, opens)
 within_few names old new answers end.OutOfMemory less opens = inl (less, opens)
 
 -- a reply that is broken off ends a connection with as many requests as it may have
@@ -274,7 +274,7 @@ within_cut names old new answers end.Closed failed fails c fits cut = absurd c
 within_cut names old new answers (end.Cut held) failed fails c fits cut = absurd c
 within_cut names old new answers (end.Refused status) failed fails c fits cut = absurd c
 within_cut names old new answers end.ReadFault failed fails c fits cut = absurd c
-within_cut names old new answers end.WriteFault failed fails c fits cut = fits
+within_cut names old new answers end.WriteFault failed fails c fits cut = inr (cut, fits)
 within_cut names old new answers end.OutOfMemory failed fails c fits cut = inr (cut, fits)
 
 -- one more that doesn't close

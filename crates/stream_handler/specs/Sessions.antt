@@ -283,7 +283,8 @@ IsWithin names old new answers end.Closed = length answers ≤ most_requests
 IsWithin names old new answers (end.Cut held) = IsOpen answers
 IsWithin names old new answers (end.Refused status) = IsOpen answers
 IsWithin names old new answers end.ReadFault = IsOpen answers
-IsWithin names old new answers end.WriteFault = length answers ≤ most_requests
+IsWithin names old new answers end.WriteFault =
+    IsOpen answers ⊎ (IsCutOff names old new answers × (length answers ≤ most_requests))
 IsWithin names old new answers end.OutOfMemory =
     IsOpen answers ⊎ (IsCutOff names old new answers × (length answers ≤ most_requests))
 
