@@ -1,8 +1,8 @@
 // Tests of sort_spec, by texts and orders worked by hand from the rules of sorts.
 use crate::making::{Plain, put};
 use sort_spec::{
-    Lends, OnPair, SortFault, SortSpec, SortTerm, read_names, read_on, read_sort, sort_lenders,
-    sort_tuples,
+    Lends, OnPair, SortFault, SortSpec, SortTerm, read_names, read_on, read_sort, sort_first,
+    sort_lenders, sort_tuples,
 };
 use std::alloc::Global;
 use std::cmp::Ordering;
@@ -336,8 +336,8 @@ fn ties_keep_their_order(rt: HostRuntime) {
     assert!(rt; ties_are_kept(rt.alloc()));
 }
 
-// So many that they are sorted in three runs. The n-th has the key 7,919 n mod 101, so that each key comes up
-// in each run.
+// So many that they are sorted in eighteen runs, in two groups. The n-th has the key 7,919 n mod 101, so that
+// each key comes up in each run.
 const MANY: u64 = 140_000;
 
 fn key_of(n: u64) -> i64 {
@@ -388,6 +388,96 @@ fn many_keep_their_order(alloc: Global) -> bool {
 #[test]
 fn ties_of_several_runs_keep_their_order(rt: HostRuntime) {
     assert!(rt; many_keep_their_order(rt.alloc()));
+}
+
+// The n-th of so many tuples has the key n mod `keys`, and the mark n.
+fn push_counted(alloc: Global, tuples: &mut Tuples, count: u32, keys: u32) -> Result<(), Memory> {
+    for n in 0..count {
+        let key = n.checked_rem(keys).unwrap_or(0);
+        let tuple = tuple_of(
+            alloc,
+            Plain::Long(i64::from(key)),
+            Plain::Long(i64::from(n)),
+        )?;
+        tuples.push(tuple)?;
+    }
+    Ok(())
+}
+
+fn push_marks(told: &mut String, lenders: &[Lender]) -> Result<(), Memory> {
+    for lender in lenders {
+        write!(told, "{};", long_of(lender.tuple, "b"))?;
+    }
+    Ok(())
+}
+
+fn push_first(
+    alloc: Global,
+    told: &mut String,
+    tuples: &[Tuple],
+    by: &SortSpec,
+    most: usize,
+) -> Result<(), Memory> {
+    let first = sort_first(lenders(alloc, tuples)?, by, most)?;
+    push_marks(told, first.as_slice())
+}
+
+// The number of tuples, the number of keys, the sort, how many are wanted at most, and the marks that come
+// first, each with a `;` behind it. Of 10,000 with 2,500 keys those of a key are 2,500 apart.
+const FIRSTS: [(u32, u32, &str, usize, &str); 8] = [
+    (5, 2, "a asc", 0, ""),
+    (5, 2, "a desc", 3, "1;3;0;"),
+    (5, 2, "a asc", 9, "0;2;4;1;3;"),
+    (5, 2, "a asc", usize::MAX, "0;2;4;1;3;"),
+    (0, 2, "a asc", 3, ""),
+    (10_000, 2_500, "a asc", 0, ""),
+    (10_000, 2_500, "a asc", 6, "0;2500;5000;7500;1;2501;"),
+    (10_000, 2_500, "a desc", 6, "2499;4999;7499;9999;2498;4998;"),
+];
+
+fn are_first(
+    alloc: Global,
+    tuples: Tuples,
+    text: &str,
+    most: usize,
+    want: &str,
+) -> Result<bool, Memory> {
+    let tuples = tuples.into_vec();
+    let mut told = String::new(alloc);
+    match read_sort(alloc, text) {
+        Ok(by) => push_first(alloc, &mut told, tuples.as_slice(), &by, most)?,
+        Err(fault) => push_fault(alloc, &mut told, fault)?,
+    }
+    Ok(told.as_str() == want)
+}
+
+fn counted(alloc: Global, count: u32, keys: u32) -> Result<Tuples, Memory> {
+    let mut tuples = Tuples::empty(alloc);
+    push_counted(alloc, &mut tuples, count, keys)?;
+    Ok(tuples)
+}
+
+fn comes_first(
+    alloc: Global,
+    (count, keys): (u32, u32),
+    text: &str,
+    most: usize,
+    want: &str,
+) -> bool {
+    match counted(alloc, count, keys) {
+        Ok(tuples) => are_first(alloc, tuples, text, most, want) == Ok(true),
+        Err(_) => false,
+    }
+}
+
+#[test]
+fn the_first_of_many(rt: HostRuntime) {
+    for (row, (count, keys, text, most, want)) in FIRSTS.iter().enumerate() {
+        assert!(rt;
+            comes_first(rt.alloc(), (*count, *keys), text, *most, want),
+            "row {row}"
+        );
+    }
 }
 
 fn has_text(alloc: Global, fault: SortFault, want: &str) -> bool {

@@ -2,6 +2,7 @@ pub mod AgreementLemmas
 pub mod AnswerLemmas
 pub mod ByteLemmas
 pub mod CommaLemmas
+pub mod FirstLemmas
 pub mod KeyedLemmas
 pub mod ListLemmas
 pub mod ListRightLemmas

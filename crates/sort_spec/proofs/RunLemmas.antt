@@ -78,6 +78,21 @@ module _ {X : Type 0} (lt : X → X → Bool) where
       rw (map-take_more f runs i d h)
       (m.0, least-append m.0 best (map f (take i runs)) (f (slice_index_or runs i d)) m.1 (rw (← is) p))
 
+-- a fact of each element and of one more holds of each with it at a place
+pub each_set : {R : Type 0} (P : R → Type 0) (runs : List R) (place : ℕ) (new : R)
+    → AllByRecursion P runs → P new → AllByRecursion P (slice_set runs place new)
+each_set P [] place new a p = a
+each_set P (r ∷ runs) zero new a p = (p, a.1)
+each_set P (r ∷ runs) (suc place) new a p = (a.0, each_set P runs place new a.1 p)
+
+-- and of each without the one at a place
+pub each_gone : {R : Type 0} (P : R → Type 0) (runs : List R) (place : ℕ) (new : R)
+    → place < length runs → AllByRecursion P runs
+    → AllByRecursion P (remove (slice_set runs place new) place)
+each_gone P [] place new h a = absurd (omega arith)
+each_gone P (r ∷ runs) zero new h a = a.1
+each_gone P (r ∷ runs) (suc place) new h a = (a.0, each_gone P runs place new (omega arith) a.1)
+
 -- the lists without what comes first in one of them, by their places
 pub taken-set : {R X : Type 0} (f : R → Parts X) (place : ℕ) (runs : List R) (d new : R) (x : X)
     (xs : List X) → place < length runs → (f (slice_index_or runs place d)).1 ≡ x ∷ xs

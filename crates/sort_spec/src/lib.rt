@@ -1,8 +1,10 @@
 //! Sorts, the order that they write, and the readers of sorts, pairs and lists of names.
 #![tactic(auto)]
 
+mod ascends;
 mod comparing;
 mod fault;
+mod firsts;
 mod front;
 mod held;
 mod item;
@@ -18,6 +20,7 @@ mod term;
 
 pub use comparing::orders_are_weak;
 pub use fault::SortFault;
+pub use firsts::sort_first;
 pub use lends::Lends;
 pub use names::{NameSet, once};
 pub use pair::{OnPair, OnSpec};

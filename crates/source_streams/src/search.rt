@@ -2,6 +2,8 @@
 ghost use Rattle.std.specs.Prelude.{◌≡◌, ◌<◌, ◌++◌, IsSome, IfOk, OnErr, map, filter, option_map};
 ghost use Rattle.expr_types.specs.Parts.{search_parts};
 ghost use Rattle.expr_types.specs.Sources.{first_rows, then_by_id, cut_to};
+ghost use Rattle.sort_spec.specs.Sorting.{ins_sort};
+ghost use Rattle.sort_spec.specs.Terms.{less};
 ghost use Rattle.source_streams.specs.Cuts.{documents_of};
 ghost use Rattle.source_streams.specs.Keeps.{doc_of};
 ghost use Rattle.source_streams.specs.Parts.{part_of, keys_of};
@@ -16,7 +18,7 @@ use crate::wanted::Wanted;
 use expr_types::Expr;
 use shard_segments::Document;
 use shard_versions::{Cut, CutPart};
-use sort_spec::{Lends, SortSpec, SortTerm, sort_lenders};
+use sort_spec::{Lends, SortSpec, SortTerm, sort_first, sort_lenders};
 use std::alloc::Global;
 use std::collections::VecDeque;
 use std::marker::{Model, Sync};
@@ -54,9 +56,9 @@ impl Model for SearchCursor {
 impl SearchCursor {
     /// The part's tuples of a search over a cut, which holds each shard of its collection: the
     /// matching documents, sorted by the search's sort and then by id, the first `rows`, each cut
-    /// to `fl`. Looks at each document once, in several threads where there are many, takes some
-    /// n log n comparisons of the n matching ones of the part (of all parts where there are `rows`),
-    /// and copies no document.
+    /// to `fl`. Looks at each document once, in several threads where there are many, and copies none.
+    /// Takes some n log n comparisons of the n matching ones of the part; where there are `rows`, some
+    /// n log m of the n of all parts, where m is the greater of `rows` and 4,096, or n if that is less.
     pub fn make<R: Threads + Sync>(
         rt: &R,
         alloc: Global,
@@ -88,9 +90,14 @@ impl SearchCursor {
         };
         let found = matching(rt, alloc, &wanted, collection, cut.as_slice())?;
         let by = by_id(alloc, sort)?;
-        let found = sort_lenders(found, &by)?;
-        let first = first_of(found.as_slice(), *rows);
-        let documents = shared_part(alloc, first, fl, wanted.keys, late_part(part, *rows))?;
+        let first = first_of(found, &by, *rows)?;
+        let documents = shared_part(
+            alloc,
+            first.as_slice(),
+            fl,
+            wanted.keys,
+            late_part(part, *rows),
+        )?;
         let fl = fl.copy(alloc)?;
         Ok(SearchCursor { documents, fl })
     }
@@ -167,13 +174,18 @@ fn by_id(alloc: Global, sort: &SortSpec) -> Result<SortSpec, Memory>
     Ok(by)
 }
 
-// The first so many, or all.
-fn first_of<'a, 'b>(found: &'b [Kept<'a>], rows: Option<u64>) -> &'b [Kept<'a>]
-    ensures { map doc_of result.now ≡ first_rows rows (map doc_of found.now) }
+// The first so many in order, or all.
+fn first_of<'a>(
+    found: Vec<Kept<'a>>,
+    by: &SortSpec,
+    rows: Option<u64>,
+) -> Result<Vec<Kept<'a>>, Memory>
+    ensures { IfOk result (λ first. map doc_of first.items
+        ≡ first_rows rows (ins_sort (less by.now) (map doc_of found.entry.items))) }
 {
     match rows {
-        Some(n) if n < found.len() as u64 => &found[..n as usize],
-        _ => found,
+        None => sort_lenders(found, by),
+        Some(most) => sort_first(found, by, most as usize),
     }
 }
 

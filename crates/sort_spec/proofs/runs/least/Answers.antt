@@ -9,7 +9,8 @@ use Rattle.sort_spec.proofs.runs.least.Goals as goal
 pub loop-i-init : goal.loop-i-init
 loop-i-init g c = record {
   foremost =
-      foremost_one (less c.args.terms.now) (parts_in g.T.Lends.doc) c.args.runs.now
+      foremost_one (less c.args.terms.now)
+      (parts_in g.T.Lends.doc (g.S.Ascends.to_come c.args.terms.now)) c.args.runs.now
       c.requires.some;
   within = omega arith;
 }
@@ -17,11 +18,12 @@ loop-i-init g c = record {
 pub loop-i-preserved : goal.loop-i-preserved
 loop-i-preserved g c =
     let terms = c.args.terms.now in
+    let parts = parts_in g.T.Lends.doc (g.S.Ascends.to_come terms) in
     elim c.if-is_less.branch [
       | then-is_less w ↦
           rw w.best-is (record {
             foremost =
-                foremost_new (less terms) (less_is_weak terms) (parts_in g.T.Lends.doc)
+                foremost_new (less terms) (less_is_weak terms) parts
                 c.args.runs.now c.loop-i.i c.loop-i.best c.index-runs-i.result
                 c.index-runs-best.result c.loop-i-test.true c.loop-i.invariant.within
                 (sym c.is_less.ensures ∙ w.if-is_less.true) c.loop-i.invariant.foremost;
@@ -30,7 +32,7 @@ loop-i-preserved g c =
       | else-is_less w ↦
           rw w.best-is (record {
             foremost =
-                foremost_stays (less terms) (parts_in g.T.Lends.doc)
+                foremost_stays (less terms) parts
                 c.args.runs.now c.loop-i.i c.loop-i.best c.index-runs-i.result
                 c.index-runs-best.result c.loop-i-test.true c.loop-i.invariant.within
                 (sym c.is_less.ensures ∙ w.if-is_less.false) c.loop-i.invariant.foremost;

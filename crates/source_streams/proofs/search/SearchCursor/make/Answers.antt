@@ -16,9 +16,8 @@ returns g c =
       searched-parts s.collection s.q s.fl s.sort s.rows s.partition_keys c.args.cut.now
           c.args.part,
       c.late_part.ensures.part,
-      c.first_of-first.ensures,
       c.as_slice-2.ensures.value,
-      c.in_ok-found-2.ensures,
+      c.in_ok-first.ensures,
       c.in_ok-found.ensures,
       c.in_ok-by.ensures,
       c.as_slice.ensures,
