@@ -1,5 +1,5 @@
 // The state of a shard.
-ghost use Rattle.std.specs.Prelude.{false, ◌≡◌, ◌+◌, ◌-◌, ◌<◌, ◌≤◌, ◌^◌, ◌++◌, ◌∷◌, ◌↔◌, [], length, min, IsErrOf, OnErr, OnOk, IfOk, List, if◌then◌else◌};
+ghost use Rattle.std.specs.Prelude.{false, true, ◌≡◌, ◌+◌, ◌-◌, ◌<◌, ◌≤◌, ◌^◌, ◌++◌, ◌∷◌, ◌↔◌, [], length, min, IsErrOf, OnErr, OnOk, IfOk, List, if◌then◌else◌};
 ghost use Rattle.shard_versions.specs.declared.entry.Entry.{Entry};
 ghost use Rattle.shard_versions.specs.Histories.{is_mark, is_pending, settled, slots, last_version, top, current};
 ghost use Rattle.shard_versions.specs.Stored.{stored, places_of};
@@ -173,6 +173,14 @@ impl ShardState {
         Ok(entries)
     }
 
+    /// Whether the counted bytes pass the limit with those of the step. Takes no memory.
+    pub fn is_over(&self, step: &Step) -> bool
+        ensures { (result ≡ true)
+            ↔ (self.now.limit < entries_bytes self.now.entries + entries_bytes step.now) }
+    {
+        self.bytes.saturating_add(entries_bytes(step.as_slice())) > self.limit
+    }
+
     /// Makes room for one append of this step.
     #[tactic(auto, using(crate::proofs::FindLemmas::finds_steps), unfolding(crate::specs::Shards::HasRoom))]
     pub fn reserve(&mut self, step: &Step) -> Result<(), ShardFault>
@@ -186,7 +194,7 @@ impl ShardState {
             ↔ (self.old.limit < entries_bytes self.old.entries + entries_bytes step.now) }
     {
         let more = step.len();
-        if self.bytes.saturating_add(entries_bytes(step.as_slice())) > self.limit {
+        if self.is_over(step) {
             return Err(ShardFault::ShardFull);
         }
         self.log.reserve(more)?;

@@ -19,7 +19,7 @@ made_all-requires-clause-few c =
       c.len-count.ensures.room,
       c.in_ok-reserve.ensures.ok,
       c.len-more.ensures,
-      ap length c.as_slice-2.ensures,
+      ap length c.as_slice.ensures,
     )
 
 pub invariant_of-self-2 : goal.invariant_of-self-2
