@@ -1,5 +1,5 @@
 -- What a closed table gives.
-use Rattle.std.proofs.Common.{ℕ, zero, suc, ◌+◌, ◌*◌, ◌≡◌, ◌≢◌, ◌<◌, List, [], ◌∷◌, ◌++◌, length, get_or, map, sym, refl, ap, ◌∙◌, subst, ⊎_elim, arith, Option, Some, None}
+use Rattle.std.proofs.Common.{ℕ, zero, suc, ◌+◌, ◌*◌, ◌≡◌, ◌≢◌, ◌<◌, Bool, List, [], ◌∷◌, ◌++◌, length, get_or, map, sym, refl, ap, ◌∙◌, subst, ⊎_elim, arith, Option, Some, None}
 use Rattle.std.specs.Prelude.{All, Contains, slice_get}
 use Rattle.std.proofs.lemmas.List.{map-append}
 use Rattle.std.proofs.lemmas.List.Elements.{All-cons, All-map, All-pop, All-push, All-same, Contains-append_right, Contains-push_cases}
@@ -11,7 +11,7 @@ use Rattle.turn_table.specs.declared.knowledge.Known.{Known}
 use Rattle.turn_table.specs.declared.knowledge.View.{View}
 use Rattle.turn_table.specs.Histories.{at, GrewBy}
 use Rattle.turn_table.specs.Knowledge.{hand, passes_of, IsFree}
-use Rattle.turn_table.specs.Rule.{IsHeld, IsHome, Kept}
+use Rattle.turn_table.specs.Rule.{IsClosed, IsHeld, IsOpen, Kept}
 use Rattle.turn_table.proofs.ListLemmas.{at_place, each_at, some_is}
 
 -- the histories that a closed table leaves, and what is true of them
@@ -39,13 +39,15 @@ pass_with (k ∷ ks) m (suc i, low, is) =
 
 module _ {C A E : Type 0} (about : C → A) (history : C → List E) (writer : E → ℕ)
     (law : List A → List (List E) → Type 0)
-    (tells : List A → ℕ → List (List E) → List (List E) → Type 0)
+    (tells : List A → ℕ → List (List E) → List (List E) → Type 0) (settled : C → Type 0)
+    (is_shut : C → Bool) (fault_count : C → ℕ)
     (abouts : List A) (start : List (List E)) (numbers : List ℕ) where
   -- the seat that has all passes, none of which holds a turn, closes the table
   pub ends : (id : ℕ) (v : View A E) (words : List ℕ) (items : List (Option C))
       → All (Contains (map (λ (k : Known A E). k.number) (passes_of v))) numbers
       → All IsFree (passes_of v)
-      → Final (Seen (Kept about history writer law tells abouts start numbers) id v) words items
+      → Final (Seen (Kept about history writer law tells settled is_shut fault_count abouts start
+      numbers) id v) words items
       → Ended about history writer law abouts start numbers (passes_of v) items
   ends id v words items all free (s, (r, at_id), same_words, long, homes) = record {
     histories = r.histories;
@@ -55,10 +57,12 @@ module _ {C A E : Type 0} (about : C → A) (history : C → List E) (writer : E
     counted = r.counted;
     long = sym long ∙ r.deep;
     values = λ c l. ⊎_elim
-        (λ (t : (get_or s.words (2 * c + 1) 0 ≡ 0)
-        × IsHome about history abouts s.homes (at r.histories c) c).
-        let y = t.1.0 in (y, homes c (Some y) t.1.1, t.1.2, t.1.3))
-        (λ (t : (get_or s.words (2 * c + 1) 0 ≡ 1) × IsHeld s.views c).
+        (λ (t : (get_or s.words (3 * c + 1) 0 ≡ 0)
+        × IsOpen about history settled is_shut fault_count abouts s.homes (at r.histories c)
+        (get_or s.words (3 * c + 3) 0) c).
+        let h = t.1.0 in (h.0, homes c (Some h.0) h.1, h.2, h.3))
+        (⊎_elim
+        (λ (t : (get_or s.words (3 * c + 1) 0 ≡ 1) × IsHeld s.views c).
         let h = t.1 in
         let ok = r.each_pass h.seat h.place h.view h.pass h.seated h.placed in
         let listed = ok.listed in
@@ -75,6 +79,10 @@ module _ {C A E : Type 0} (about : C → A) (history : C → List E) (writer : E
         let idle : hand h.pass c ≡ None =
         each_at IsFree (passes_of v) h.place h.pass free here c in
         let held = h.holds in absurd (cc))
+        (λ (t : (get_or s.words (3 * c + 1) 0 ≡ 2)
+        × IsClosed about history settled is_shut fault_count abouts s.homes (at r.histories c)
+        (get_or s.words (3 * c + 3) 0) c).
+        let h = t.1.0 in (h.0, homes c (Some h.0) h.1, h.2, h.3)))
         (r.each_cell c l).turn;
   }
 

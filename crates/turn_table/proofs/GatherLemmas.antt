@@ -1,5 +1,5 @@
 -- Passes are gathered in one seat, and the table is closed.
-use Rattle.std.proofs.Common.{ℕ, ◌+◌, ◌≡◌, ◌≢◌, ◌⊎◌, ◌<◌, List, [], ◌++◌, length, set, sym, ap, ◌∙◌, subst, ⊎_elim, inl, inr, arith, Option}
+use Rattle.std.proofs.Common.{ℕ, ◌+◌, ◌≡◌, ◌≢◌, ◌⊎◌, ◌<◌, Bool, List, [], ◌++◌, length, set, sym, ap, ◌∙◌, subst, ⊎_elim, inl, inr, arith, Option}
 use mathlib.Core.Logic.{dite}
 use mathlib.Core.Option.{some, some-injective, some-ne-none}
 use native.Mathlib.Decide.{ℕ_discrete}
@@ -8,15 +8,16 @@ use Rattle.atomic_table.specs.Table.{Joins, State}
 use Rattle.atomic_table.proofs.Lists.{at_longer, at_set, set_else, set_here}
 use Rattle.turn_table.specs.declared.knowledge.Known.{Known}
 use Rattle.turn_table.specs.declared.knowledge.View.{View}
-use Rattle.turn_table.specs.Knowledge.{dealt, passes_of}
+use Rattle.turn_table.specs.Knowledge.{dealt, passes_of, IsFree}
 use Rattle.turn_table.specs.Rule.{IsPass, Kept}
 use Rattle.turn_table.proofs.DealLemmas.{cell_keeps, held_moves, reseat, Has}
-use Rattle.turn_table.proofs.KnowledgeLemmas.{in_dealt, of_dealt}
+use Rattle.turn_table.proofs.KnowledgeLemmas.{idle, in_dealt, of_dealt}
 use Rattle.turn_table.proofs.ListLemmas.{behind, inside, sends, sends_else, sends_here, split_at}
 
 module _ {C A E : Type 0} (about : C → A) (history : C → List E) (writer : E → ℕ)
     (law : List A → List (List E) → Type 0)
-    (tells : List A → ℕ → List (List E) → List (List E) → Type 0)
+    (tells : List A → ℕ → List (List E) → List (List E) → Type 0) (settled : C → Type 0)
+    (is_shut : C → Bool) (fault_count : C → ℕ)
     (abouts : List A) (start : List (List E)) (numbers : List ℕ) where
   abbrev K : Type 0
   K = Known A E
@@ -25,12 +26,14 @@ module _ {C A E : Type 0} (about : C → A) (history : C → List E) (writer : E
   W = View A E
 
   abbrev Rule : State (Option C) W → Type 0
-  Rule = Kept about history writer law tells abouts start numbers
+  Rule = Kept about history writer law tells settled is_shut fault_count abouts start numbers
 
   -- the passes of another seat are taken in
   pub gathers : (id : ℕ) (v : W) (other : ℕ) (w : W)
+      → ((i : ℕ) (x : K) → get_elem? (passes_of v) i ≡ some x → IsFree x)
+      → ((i : ℕ) (x : K) → get_elem? (passes_of w) i ≡ some x → IsFree x)
       → Joins Rule id v other w (dealt (passes_of v ++ passes_of w)) (dealt [])
-  gathers id v other w s r at_id apart at_other' =
+  gathers id v other w free_v free_w s r at_id apart at_other' =
       let b : List K = passes_of v ++ passes_of w in let vw : W = dealt b in
       let none_left : W = dealt [] in
       let mid : List W = set s.views id vw in
@@ -84,28 +87,32 @@ module _ {C A E : Type 0} (about : C → A) (history : C → List E) (writer : E
         lawful = r.lawful;
         wide = r.wide;
         deep = r.deep;
-        each_cell = λ c l. cell_keeps about history abouts r.histories s.words s.homes s.views
-            views' c (held_moves s.views views' c moved) (r.each_cell c l);
+        each_cell = λ c l. cell_keeps about history settled is_shut fault_count abouts
+            r.histories s.words s.homes s.views views' c (held_moves s.views views' c moved)
+            (r.each_cell c l);
         each_pass = λ j i l x at_j at_i. ⊎_elim
             (λ (t : Spent j l). absurd (some-ne-none x (sym (subst (P i x) (sym t.1) at_i))))
             (λ (t : InMid j l). ⊎_elim
             (λ (u : Mine j l). subst (λ (n : ℕ). IsPass writer tells abouts start numbers
-            r.histories owner' r.holder s.words n x) (sym u.0) (⊎_elim
+            r.histories owner' r.holder s.words l.faults n x) (sym u.0) (⊎_elim
             (λ (z : InFirst i x).
             let ok = r.each_pass id i v x at_id z.1 in
             reseat writer tells abouts start numbers r.histories r.owner owner' r.holder s.words
-            id id x (sends_else id other r.owner x.number
-            (λ e. apart' (sym ok.mine ∙ e)) ∙ ok.mine) ok)
+            v.faults l.faults id id x (sends_else id other r.owner x.number
+            (λ e. apart' (sym ok.mine ∙ e)) ∙ ok.mine)
+            (λ c h held. absurd (idle x (free_v i x z.1) c h held)) ok)
             (λ (z : InSecond i x).
             let ok = r.each_pass other z.0 w x at_other z.2 in
             reseat writer tells abouts start numbers r.histories r.owner owner' r.holder s.words
-            other id x (sends_here id other r.owner x.number ok.mine) ok)
+            w.faults l.faults other id x (sends_here id other r.owner x.number ok.mine)
+            (λ c h held. absurd (idle x (free_w z.0 x z.2) c h held)) ok)
             (split_at (passes_of v) (passes_of w) i x (of_dealt b l i x u.1 at_i))))
             (λ (u : Other j l).
             let ok = r.each_pass j i l x u.1 at_i in
             reseat writer tells abouts start numbers r.histories r.owner owner' r.holder s.words
-            j j x (sends_else id other r.owner x.number (λ e. t.0 (sym ok.mine ∙ e))
-            ∙ ok.mine) ok)
+            l.faults l.faults j j x
+            (sends_else id other r.owner x.number (λ e. t.0 (sym ok.mine ∙ e)) ∙ ok.mine)
+            ok.noted ok)
             (at_set s.views id j vw l t.1))
             (at_set mid other j none_left l at_j);
         apart = λ j i i' l x x' at_j at_i at_i' e. ⊎_elim

@@ -54,7 +54,8 @@ module _ {E : Type 0} where
       (λ same. (
         more,
         ap (at (with_more histories cell more)) same
-            ∙ (at-with_more histories cell more inside ∙ ap (λ c. at histories c ++ more) (sym same)),
+            ∙ (at-with_more histories cell more inside ∙ ap (λ c. at histories c ++ more) (sym
+            same)),
         each,
       ))
       (λ apart. (

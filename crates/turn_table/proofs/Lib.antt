@@ -7,6 +7,7 @@ pub mod TryLemmas
 pub mod LookLemmas
 pub mod SealLemmas
 pub mod GiveLemmas
+pub mod NoteLemmas
 pub mod DealLemmas
 pub mod GatherLemmas
 pub mod CloseLemmas

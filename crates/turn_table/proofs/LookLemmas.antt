@@ -1,5 +1,5 @@
 -- A look keeps the rule.
-use Rattle.std.proofs.Common.{ℕ, ◌+◌, ◌*◌, ◌≡◌, ◌≢◌, ◌<◌, List, [], length, get_or, set, sym, refl, ap, ◌∙◌, subst, arith, Option, Some, get_or-set_other, get_or-set_same}
+use Rattle.std.proofs.Common.{ℕ, ◌+◌, ◌*◌, ◌≡◌, ◌≢◌, ◌<◌, Bool, List, [], length, get_or, set, sym, refl, ap, ◌∙◌, subst, arith, Option, Some, get_or-set_other, get_or-set_same}
 use mathlib.Core.Logic.{dite}
 use mathlib.Core.Option.{none, some}
 use native.Mathlib.Decide.{ℕ_discrete}
@@ -13,11 +13,11 @@ use Rattle.turn_table.specs.Knowledge.{asof, hand, lone, looked, IsWide}
 use Rattle.turn_table.specs.Rule.{Kept}
 use Rattle.turn_table.specs.Steps.{AddsOthers, Glimpse, Sees}
 use Rattle.turn_table.proofs.HistoryLemmas.{grown-seen, prefixes-on, prefixes-seen, prefixes-self, prefixes_of_grown}
-use Rattle.turn_table.proofs.KnowledgeLemmas.{same_pass, wide-looked}
+use Rattle.turn_table.proofs.KnowledgeLemmas.{same_faults, same_pass, wide-looked}
 use Rattle.turn_table.proofs.MoveLemmas.{cell_stays, moves}
 
 -- a cell's length word tells which cell it is
-pub same_length : (c d : ℕ) → 2 * c + 2 ≡ 2 * d + 2 → c ≡ d
+pub same_length : (c d : ℕ) → 3 * c + 2 ≡ 3 * d + 2 → c ≡ d
 same_length c d e = omega arith
 
 module _ {A E : Type 0} (k : Known A E) (c : ℕ) (whole : List E) (count : ℕ)
@@ -50,7 +50,8 @@ module _ {A E : Type 0} (k : Known A E) (c : ℕ) (whole : List E) (count : ℕ)
 
 module _ {C A E : Type 0} (about : C → A) (history : C → List E) (writer : E → ℕ)
     (law : List A → List (List E) → Type 0)
-    (tells : List A → ℕ → List (List E) → List (List E) → Type 0)
+    (tells : List A → ℕ → List (List E) → List (List E) → Type 0) (settled : C → Type 0)
+    (is_shut : C → Bool) (fault_count : C → ℕ)
     (abouts : List A) (start : List (List E)) (numbers : List ℕ) where
   abbrev K : Type 0
   K = Known A E
@@ -59,7 +60,7 @@ module _ {C A E : Type 0} (about : C → A) (history : C → List E) (writer : E
   St = State (Option C) (View A E)
 
   abbrev Rule : St → Type 0
-  Rule = Kept about history writer law tells abouts start numbers
+  Rule = Kept about history writer law tells settled is_shut fault_count abouts start numbers
 
   -- what a state of the pass's table shows to it
   glimpse_of : (k : K) (s : St) (r : Rule s) → k.about ≡ abouts → k.start ≡ start
@@ -67,13 +68,13 @@ module _ {C A E : Type 0} (about : C → A) (history : C → List E) (writer : E
       → at k.seen c ≡ at r.histories c
       → ((e : ℕ) → 0 < get_or k.looks e 0 → tells abouts e (asof k e) r.histories)
       → ((e : ℕ) → 0 < get_or k.looks e 0 → ArePrefixes (asof k e) k.seen)
-      → Glimpse about history writer law tells c k
+      → Glimpse about history writer law tells settled is_shut fault_count c k
   glimpse_of k s r about_is start_is numbers_are c seen whole told since =
       subst (λ (z : List A × (List (List E) × List ℕ)).
-      (q : Kept about history writer law tells z.0 z.1.0 z.1.1 s)
+      (q : Kept about history writer law tells settled is_shut fault_count z.0 z.1.0 z.1.1 s)
       → ArePrefixes k.seen q.histories → at k.seen c ≡ at q.histories c
       → ((e : ℕ) → 0 < get_or k.looks e 0 → tells z.0 e (asof k e) q.histories)
-      → Glimpse about history writer law tells c k)
+      → Glimpse about history writer law tells settled is_shut fault_count c k)
       (λ n. (about_is n, (start_is n, numbers_are n)))
       (λ q within is told. record {
         state = s;
@@ -84,17 +85,19 @@ module _ {C A E : Type 0} (about : C → A) (history : C → List E) (writer : E
         since = since;
       }) r seen whole told
 
-  module _ (slots id : ℕ) (me : Me (Option C) (View A E)) (k : K) (is : me.0 ≡ lone k) (c : ℕ)
+  module _ (slots id : ℕ) (me : Me (Option C) (View A E)) (f : List ℕ) (k : K)
+      (is : me.0 ≡ lone f k) (c : ℕ)
       (room : c < slots) (entries : List E) (held : hand k c ≡ Some entries)
       (looks_law : (b : List A) (histories seen : List (List E)) (d : ℕ) → law b histories
       → ArePrefixes seen histories → d < length histories → at seen d ≡ at histories d
       → tells b d seen histories) where
-    pub sees : Allows Rule slots id me (2 * c + 2) (λ n. n)
-        (Sees about history writer law tells (step slots (2 * c + 2) 0 0 none) me)
+    pub sees : Allows Rule slots id me (3 * c + 2) (λ n. n)
+        (Sees about history writer law tells settled is_shut fault_count (step slots (3 * c + 2) 0
+        0 none) me)
     sees s r deep at_id fits =
-        let i : ℕ = 2 * c + 2 in let here = at_id ∙ ap some is in let d = r.deep in
+        let i : ℕ = 3 * c + 2 in let here = at_id ∙ ap some is in let d = r.deep in
         let low : c < length r.histories = omega arith in
-        let cell = r.each_cell c low in let mine = r.each_pass id 0 (lone k) k here refl in
+        let cell = r.each_cell c low in let mine = r.each_pass id 0 (lone f k) k here refl in
         let whole : at r.histories c ≡ entries = (mine.hands c entries held).3 in
         let k' : K = looked c entries k in let w = mine.wide.seen in
         let Others : E → Type 0 = λ entry. writer entry ≢ k.number in
@@ -122,26 +125,30 @@ module _ {C A E : Type 0} (about : C → A) (history : C → List E) (writer : E
         (λ e pos. prefixes-on (asof k e) k.seen k'.seen (mine.since e pos) grown) in
         let glimpse = glimpse_of k' s r mine.about_is mine.start_is mine.numbers_are c within
         seen_is told since in
-        let after : K → Me (Option C) (View A E) = λ x. (lone x, me.1) in
-        let T : ℕ × (K × List E) → Type 0 = λ z. (after k' ≡ after (looked z.0 z.1.1 z.1.0))
-        × (get_or s.words i 0 ≡ length z.1.1) × AddsOthers writer z.1.0 z.0 z.1.1
-        × Glimpse about history writer law tells z.0 (looked z.0 z.1.1 z.1.0) in
-        let done : T (c, (k, entries)) = (refl, cell.long ∙ ap length whole, adds, glimpse) in (
-          lone k',
+        let after : List ℕ → K → Me (Option C) (View A E) = λ g x. (lone g x, me.1) in
+        let T : ℕ × (K × (List E × List ℕ)) → Type 0 = λ z.
+        (after f k' ≡ after z.1.1.1 (looked z.0 z.1.1.0 z.1.0))
+        × (get_or s.words i 0 ≡ length z.1.1.0) × AddsOthers writer z.1.0 z.0 z.1.1.0
+        × Glimpse about history writer law tells settled is_shut fault_count z.0
+        (looked z.0 z.1.1.0 z.1.0) in
+        let done : T (c, (k, (entries, f))) =
+        (refl, cell.long ∙ ap length whole, adds, glimpse) in (
+          lone f k',
           keeps,
           tt,
           subst (λ ws. Rule record {
             words = ws;
             homes = s.homes;
-            views = set s.views id (lone k');
+            views = set s.views id (lone f k');
           })
               (sym (set-get_or s.words i 0))
-              (moves about history writer law tells abouts start numbers s r id k k' s.words
+              (moves about history writer law tells settled is_shut fault_count abouts start
+              numbers s r id f f k k' s.words
               s.homes r.histories r.holder here refl refl refl refl
-              (λ e l. cell_stays about history abouts r.histories r.histories s.words s.words
-              s.homes s.homes s.views id k k' e here refl refl refl refl refl
-              (r.each_cell e l))
-              (λ j x apart ok. ok)
+              (λ e l. cell_stays about history settled is_shut fault_count abouts r.histories
+              r.histories s.words s.words s.homes s.homes s.views id f f k k' e here refl refl refl
+              refl refl refl (r.each_cell e l))
+              (λ j g x apart ok. ok)
               record {
                 about_is = mine.about_is;
                 start_is = mine.start_is;
@@ -150,13 +157,15 @@ module _ {C A E : Type 0} (about : C → A) (history : C → List E) (writer : E
                 mine = mine.mine;
                 seen = seen;
                 hands = mine.hands;
+                noted = mine.noted;
                 told = told;
                 since = since;
                 wide = wide-looked k c (length r.histories) mine.wide entries;
               }
               r.lawful r.grown),
-          λ e x l w v z.
-              let q = same_length c e w in let p = same_pass k x (sym is ∙ v) in
+          λ e g x l w v z.
+              let q = same_length c e w in let p = same_pass f g k x (sym is ∙ v) in
+              let fs = same_faults f g k x (sym is ∙ v) in
               let o : entries ≡ l = cc (held, z, p, q) in
-              subst T (λ n. (q n, (p n, o n))) done,
+              subst T (λ n. (q n, (p n, (o n, fs n)))) done,
         )

@@ -22,7 +22,8 @@ Adds {E} P early late = (more : List E) × (late ≡ early ++ more) × All P mor
 abbrev pub GrewBy : {E : Type 0} → (E → Type 0) → List (List E) → List (List E) → Type 0
 GrewBy P early late = (cell : ℕ) → Adds P (at early cell) (at late cell)
 
--- the turn word and the length word of each cell, where no turn is taken
-abbrev pub words_of : {E : Type 0} → List (List E) → List ℕ
-words_of [] = []
-words_of (entries ∷ others) = 0 ∷ length entries ∷ words_of others
+-- the turn word, the length word and the fault word of each cell, where no turn is taken
+abbrev pub words_of : {C E : Type 0} → (C → List E) → (C → ℕ) → List C → List ℕ
+words_of history fault_count [] = []
+words_of history fault_count (cell ∷ cells) =
+    0 ∷ length (history cell) ∷ fault_count cell ∷ words_of history fault_count cells

@@ -25,15 +25,17 @@ pub(crate) fn lay<C: CellState>(
     cells: Vec<C>,
 ) -> Result<(Vec<u64>, Vec<Option<C>>), Memory>
     requires { length cells.items < 2 ^ 30 }
-    ensures words { IfOk result (λ r. r.0.items ≡ 0 ∷ words_of (map C.history cells.items)) }
+    ensures words { IfOk result
+        (λ r. r.0.items ≡ 0 ∷ words_of C.history C.fault_count cells.items) }
     ensures slots { IfOk result (λ r. r.1.items ≡ map Some cells.items) }
 {
-    let mut words = Vec::with_capacity(alloc, 2 * cells.len() + 1)?;
+    let mut words = Vec::with_capacity(alloc, 3 * cells.len() + 1)?;
     let mut slots = Vec::with_capacity(alloc, cells.len())?;
     words.push(0)?;
     for cell in cells {
         words.push(0)?;
         words.push(cell.len())?;
+        words.push(cell.faults())?;
         slots.push(Some(cell))?;
     }
     Ok((words, slots))
@@ -82,6 +84,7 @@ pub(crate) fn gather<C: CellState>(
 ) -> Place<C, C::About, C::Entry>
     requires seat { (seat.table_id ≡ top.now.table_id) × (0 < top.now.table_id.words)
         × (seat.me.1 ≡ []) }
+    requires idle { All IsFree (passes_of seat.me.0) }
     requires own { All (λ pass. table_of pass ≡ top.now.table_id) passes.items }
     requires free { All (λ pass. IsFree (known pass)) passes.items }
     ensures seat { (result.table_id ≡ top.now.table_id) × (result.me.1 ≡ []) }

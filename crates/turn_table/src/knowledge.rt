@@ -21,6 +21,10 @@ pub struct Known<A, E> {
     pub looks: LinkedList<u64>,
     /// What the pass had seen of all cells at its last look at this one.
     pub asof: LinkedList<LinkedList<LinkedList<E>>>,
+    /// How often the pass found the cell shut.
+    pub barred: LinkedList<u64>,
+    /// How often the pass raised the cell's fault word, or found it at its end.
+    pub broke: LinkedList<u64>,
 }
 
 /// What a seat knows: the passes that it has. At the start the first seat has all of them.
@@ -31,4 +35,6 @@ pub struct View<A, E> {
     pub pass: Known<A, E>,
     /// The others.
     pub more: LinkedList<Known<A, E>>,
+    /// The fault words of the cells whose turns its one pass holds, at the places of these cells.
+    pub faults: LinkedList<u64>,
 }

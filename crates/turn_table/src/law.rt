@@ -10,7 +10,8 @@ use atomic_table::TableRule;
 /// Each state that keeps the rule with which a table is made has histories that meet the law, and
 /// its turn words, length words and slots fit them. The rule holds between any two steps on it.
 pub fn law_between_steps<C: CellState>()
-    ensures { IsLawBetweenSteps C.about C.history C.law
+    ensures { IsLawBetweenSteps C.about C.history C.law C.settled
+        C.is_shut C.fault_count
         ⟦<Turns<C> as TableRule<Option<C>, View<C::About, C::Entry>, Opening<C>>>⟧.holds }
 {}
 

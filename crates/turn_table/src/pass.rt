@@ -1,5 +1,5 @@
 // A pass: what one thread carries from turn to turn.
-ghost use Rattle.std.specs.Prelude.{◌≡◌, ◌<◌, ◌≤◌, ℕ, List, ◌∷◌};
+ghost use Rattle.std.specs.Prelude.{◌≡◌, ◌<◌, ◌≤◌, ℕ, List, ◌∷◌, length};
 ghost use Rattle.std.specs.VecDeque.{deque_capacity};
 ghost use Rattle.turn_table.specs.Carried.{AreHeld, emptied, times};
 ghost use Rattle.turn_table.specs.Knowledge.{lone, IsWide};
@@ -17,9 +17,10 @@ pub struct Pass<C, A, E> {
     pub(crate) number: u64,
     // The cells whose turns it holds, in the order in which the seat carries their slots.
     pub(crate) held: VecDeque<u32>,
-    ghost alone: { seat.me.0 ≡ lone seat.me.0.pass },
+    ghost alone: { seat.me.0 ≡ lone seat.me.0.faults seat.me.0.pass },
     ghost named: { seat.me.0.pass.number ≡ number },
     ghost wide: { IsWide seat.me.0.pass seat.table_id.slots },
+    ghost noted: { length seat.me.0.faults ≡ seat.table_id.slots },
     ghost carried: { seat.me.1 ≡ emptied held.items },
     ghost counted: { AreHeld held.items seat.me.0.pass.hand },
     ghost roomy: { seat.table_id.slots ≤ deque_capacity held },
@@ -29,7 +30,7 @@ pub struct Pass<C, A, E> {
 pub type Passes<C> = Sequence<Pass<C, <C as CellState>::About, <C as CellState>::Entry>>;
 
 impl<C, A, E> Pass<C, A, E> {
-    ghost use Rattle.turn_table.specs.Calls.{known, table_of};
+    ghost use Rattle.turn_table.specs.Calls.{fault_words, known, table_of};
 
     /// The pass's number, which its entries carry.
     pub fn number(&self) -> u64
@@ -42,6 +43,7 @@ impl<C, A, E> Pass<C, A, E> {
     pub(crate) fn bring(&mut self, cell: u32)
         requires { 0 < times cell self.old.held.items }
         ensures known { known self.new ≡ known self.old }
+        ensures faults { fault_words self.new ≡ fault_words self.old }
         ensures table { table_of self.new ≡ table_of self.old }
         ensures front { (others : List ℕ) × (self.new.held.items ≡ cell ∷ others) }
     {

@@ -33,8 +33,9 @@ impl<C: CellState> TableRule<Option<C>, View<C::About, C::Entry>, Opening<C>> fo
     ghost use Rattle.turn_table.specs.Knowledge.{dealt, fresh};
     ghost use Rattle.turn_table.specs.Rule.{Kept};
 
-    ghost holds = { λ start. Kept C.about C.history C.writer C.law C.tells
-        (map C.about start.cells.value) (map C.history start.cells.value) start.numbers.value };
+    ghost holds = { λ start. Kept C.about C.history C.writer C.law C.tells C.settled
+        C.is_shut C.fault_count (map C.about start.cells.value)
+        (map C.history start.cells.value) start.numbers.value };
 
     ghost first = { λ start. dealt (map
         (fresh (map C.about start.cells.value) (map C.history start.cells.value)
@@ -46,11 +47,11 @@ impl<C: CellState> TableRule<Option<C>, View<C::About, C::Entry>, Opening<C>> fo
 pub(crate) struct Deal;
 
 impl<A, E> Split<View<A, E>> for Deal {
-    ghost use Rattle.turn_table.specs.Knowledge.{dealt, lone};
+    ghost use Rattle.turn_table.specs.Knowledge.{blank, dealt, lone};
 
     ghost left = { λ view. dealt view.more };
 
-    ghost right = { λ view. lone view.pass };
+    ghost right = { λ view. lone (blank view.pass) view.pass };
 }
 
 impl<A, E> Join<View<A, E>> for Deal {
@@ -70,7 +71,8 @@ pub(crate) struct Try<C> {
 impl<C: CellState> Play<Option<C>, View<C::About, C::Entry>> for Try<C> {
     ghost use Rattle.turn_table.specs.Steps.{Tries};
 
-    ghost then = { Tries C.about C.history C.writer C.law C.tells };
+    ghost then = { Tries C.about C.history C.writer C.law C.tells C.settled C.is_shut
+        C.fault_count };
 }
 
 // A look, with the turn held.
@@ -81,7 +83,8 @@ pub(crate) struct Look<C> {
 impl<C: CellState> Play<Option<C>, View<C::About, C::Entry>> for Look<C> {
     ghost use Rattle.turn_table.specs.Steps.{Sees};
 
-    ghost then = { Sees C.about C.history C.writer C.law C.tells };
+    ghost then = { Sees C.about C.history C.writer C.law C.tells C.settled C.is_shut
+        C.fault_count };
 }
 
 // A moment at which nothing changes.
@@ -92,7 +95,8 @@ pub(crate) struct Watch<C> {
 impl<C: CellState> Play<Option<C>, View<C::About, C::Entry>> for Watch<C> {
     ghost use Rattle.turn_table.specs.Steps.{Watches};
 
-    ghost then = { Watches C.about C.history C.writer C.law C.tells };
+    ghost then = { Watches C.about C.history C.writer C.law C.tells C.settled C.is_shut
+        C.fault_count };
 }
 
 // A seal, with the turn held.
@@ -104,6 +108,17 @@ impl<C: CellState> Play<Option<C>, View<C::About, C::Entry>> for Seal<C> {
     ghost use Rattle.turn_table.specs.Steps.{Seals};
 
     ghost then = { Seals C.history };
+}
+
+// A note of faults, with the turn held.
+pub(crate) struct Note<C> {
+    cell: PhantomData<C>,
+}
+
+impl<C: CellState> Play<Option<C>, View<C::About, C::Entry>> for Note<C> {
+    ghost use Rattle.turn_table.specs.Steps.{Notes};
+
+    ghost then = { Notes };
 }
 
 // The giving back of a turn.

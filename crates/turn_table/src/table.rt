@@ -1,13 +1,15 @@
 // The table of turns: its start, the calls of a pass, and its end.
-ghost use Rattle.std.specs.Prelude.{◌≡◌, ◌≢◌, ◌+◌, ◌*◌, ◌^◌, ◌<◌, ◌≤◌, ℕ, [], ◌++◌, All, AllPairs, Contains, IfNone, IfOk, IfSome, None, Some, length, map, slice_get, slice_index, vec_capacity};
-ghost use Rattle.turn_table.specs.Calls.{known, table_of, turn_about, turn_history};
+ghost use Rattle.std.specs.Prelude.{◌≡◌, ◌≢◌, ◌+◌, ◌*◌, ◌^◌, ◌<◌, ◌≤◌, ◌⊎◌, ℕ, [], ◌++◌, false, true, All, AllPairs, Contains, IfNone, IfOk, IfSome, IsErrOf, None, OnErr, Some, cond, length, map, slice_get, slice_index, slice_set, vec_capacity};
+ghost use Rattle.turn_table.specs.Calls.{fault_word, fault_words, known, table_of, turn_about, turn_faults, turn_history};
 ghost use Rattle.turn_table.specs.Histories.{at, GrewBy};
-ghost use Rattle.turn_table.specs.Knowledge.{fresh, gave, hand, looked, missed, sealed, took, waited, IsFree};
-ghost use Rattle.turn_table.specs.Steps.{AddsOthers, Glimpse, WasTaken, Watched};
+ghost use Rattle.turn_table.specs.Knowledge.{barred, fresh, gave, hand, looked, missed, noted, sealed, took, waited, IsFree};
+ghost use Rattle.turn_table.specs.Steps.{AddsOthers, Glimpse, WasShut, WasTaken, Watched};
+ghost use Rattle.turn_table.specs.declared.turn.Absence.TheVariants as absence;
 
 use crate::deals::{deal, gather, lay, unload};
 use crate::knowledge::View;
-use crate::rule::{Give, Look, Opening, Seal, Try, Turns, Watch};
+use crate::rule::{Give, Look, Note, Opening, Seal, Try, Turns, Watch};
+use crate::turn::Absence;
 use crate::{CellState, Pass, Passes, Turn};
 use atomic_table::Table;
 use std::alloc::Global;
@@ -27,7 +29,7 @@ pub struct TurnTable<C: CellState> {
     pub(crate) cells: u32,
     // Room for the cells that `close` gives.
     pub(crate) room: Vec<C>,
-    ghost words: { board.shared.table_id.words ≡ 2 * cells + 1 },
+    ghost words: { board.shared.table_id.words ≡ 3 * cells + 1 },
     ghost slots: { board.shared.table_id.slots ≡ cells },
     ghost few: { cells < 2 ^ 30 },
     ghost empty: { room.items ≡ [] },
@@ -46,6 +48,7 @@ impl<C: CellState> TurnTable<C> {
         requires differ { AllPairs (λ m n. m ≢ n) numbers }
         requires new { All (λ cell. All (λ entry. ¬ Contains numbers (C.writer entry))
             (C.history cell)) cells }
+        requires sound { All (λ cell. C.settled cell × (C.is_shut cell ≡ false)) cells }
         ensures cells { IfOk result (λ made. made.0.cells ≡ length cells) }
         ensures opening { IfOk result (λ made. (made.0.board.shared.key.cells.value ≡ cells)
             × (made.0.board.shared.key.numbers.value ≡ numbers)) }
@@ -89,42 +92,104 @@ impl<C: CellState> TurnTable<C> {
             × (turn_about C.about turn ≡ slice_get (known pass.old).about cell)
             × (known pass.new ≡ took cell (turn_history C.history turn) (known pass.old))
             × (hand (known pass.new) cell ≡ Some (turn_history C.history turn))) }
-        ensures absent { IfNone result ((known pass.new ≡ missed cell (known pass.old))
-            × WasTaken C.about C.history C.writer C.law C.tells (known pass.old) cell) }
+        ensures sound { IfSome result (λ turn. IfSome turn.value
+            (λ value. C.settled value × (C.is_shut value ≡ false))) }
+        ensures faults { IfSome result (λ turn.
+            (fault_word pass.new cell ≡ turn_faults C.fault_count turn)
+            × (fault_words pass.new
+            ≡ slice_set (fault_words pass.old) cell (turn_faults C.fault_count turn))) }
+        ensures absent { IfNone result
+            (((known pass.new ≡ missed cell (known pass.old))
+            × WasTaken C.about C.history C.writer C.law C.tells C.settled C.is_shut
+            C.fault_count (known pass.old) cell)
+            ⊎ ((known pass.new ≡ barred cell (known pass.old))
+            × WasShut C.about C.history C.writer C.law C.tells C.settled C.is_shut
+            C.fault_count (known pass.old) cell)) }
+        ensures same { IfNone result (fault_words pass.new ≡ fault_words pass.old) }
     {
-        let shared = &self.board.shared;
-        let place = cell as usize;
-        if shared.compare_exchange::<Try<C>>(&mut pass.seat, 2 * place + 1, 0, 1) == 0 {
-            let value = shared.exchange(&mut pass.seat, place, None);
-            pass.held.push_front_reserved(cell);
-            Some(Turn { value, cell })
-        } else {
-            None
+        match self.attempt(pass, cell) {
+            Ok(turn) => Some(turn),
+            Err(_) => None,
         }
     }
 
-    /// Waits for the turn of a cell.
+    // Makes one try, and tells why it took no turn.
+    fn attempt(&self, pass: &mut Pass<C, C::About, C::Entry>, cell: u32) -> Result<Turn<C>, Absence>
+        requires own { table_of pass.old ≡ self.now.board.shared.table_id }
+        requires cell { cell < self.now.cells }
+        ensures own { table_of pass.new ≡ table_of pass.old }
+        ensures found { IfOk result (λ turn. (turn.cell ≡ cell)
+            × (turn_about C.about turn ≡ slice_get (known pass.old).about cell)
+            × (known pass.new ≡ took cell (turn_history C.history turn) (known pass.old))
+            × (hand (known pass.new) cell ≡ Some (turn_history C.history turn))) }
+        ensures sound { IfOk result (λ turn. IfSome turn.value
+            (λ value. C.settled value × (C.is_shut value ≡ false))) }
+        ensures faults { IfOk result (λ turn.
+            (fault_word pass.new cell ≡ turn_faults C.fault_count turn)
+            × (fault_words pass.new
+            ≡ slice_set (fault_words pass.old) cell (turn_faults C.fault_count turn))) }
+        ensures taken { IsErrOf result absence.Taken
+            → (known pass.new ≡ missed cell (known pass.old))
+            × WasTaken C.about C.history C.writer C.law C.tells C.settled C.is_shut
+            C.fault_count (known pass.old) cell }
+        ensures shut { IsErrOf result absence.Shut
+            → (known pass.new ≡ barred cell (known pass.old))
+            × WasShut C.about C.history C.writer C.law C.tells C.settled C.is_shut
+            C.fault_count (known pass.old) cell }
+        ensures same { OnErr result (fault_words pass.new ≡ fault_words pass.old) }
+    {
+        let shared = &self.board.shared;
+        let place = cell as usize;
+        let found = shared.compare_exchange::<Try<C>>(&mut pass.seat, 3 * place + 1, 0, 1);
+        if found == 0 {
+            let value = shared.exchange(&mut pass.seat, place, None);
+            pass.held.push_front_reserved(cell);
+            Ok(Turn { value, cell })
+        } else if found == 1 {
+            Err(Absence::Taken)
+        } else {
+            Err(Absence::Shut)
+        }
+    }
+
+    /// Waits for the turn of a cell. There is none only where the cell is shut.
     pub fn turn<R: Wait>(
         &self,
         rt: &R,
         pass: &mut Pass<C, C::About, C::Entry>,
         cell: u32,
-    ) -> Turn<C>
+    ) -> Option<Turn<C>>
         requires own { table_of pass.old ≡ self.now.board.shared.table_id }
         requires cell { cell < self.now.cells }
         ensures own { table_of pass.new ≡ table_of pass.old }
-        ensures cell { result.cell ≡ cell }
-        ensures about { turn_about C.about result ≡ slice_get (known pass.old).about cell }
-        ensures took { (count : ℕ) × (slice_index (known pass.old).met cell ≤ count)
-            × (known pass.new ≡ took cell (turn_history C.history result)
-            (waited cell count (known pass.old))) }
-        ensures holds { hand (known pass.new) cell ≡ Some (turn_history C.history result) }
+        ensures cell { IfSome result (λ turn. turn.cell ≡ cell) }
+        ensures about { IfSome result
+            (λ turn. turn_about C.about turn ≡ slice_get (known pass.old).about cell) }
+        ensures took { IfSome result
+            (λ turn. (count : ℕ) × (slice_index (known pass.old).met cell ≤ count)
+            × (known pass.new ≡ took cell (turn_history C.history turn)
+            (waited cell count (known pass.old)))) }
+        ensures holds { IfSome result
+            (λ turn. hand (known pass.new) cell ≡ Some (turn_history C.history turn)) }
+        ensures sound { IfSome result (λ turn. IfSome turn.value
+            (λ value. C.settled value × (C.is_shut value ≡ false))) }
+        ensures faults { IfSome result (λ turn.
+            (fault_word pass.new cell ≡ turn_faults C.fault_count turn)
+            × (fault_words pass.new
+            ≡ slice_set (fault_words pass.old) cell (turn_faults C.fault_count turn))) }
+        ensures absent { IfNone result
+            ((count : ℕ) × (slice_index (known pass.old).met cell ≤ count)
+            × (known pass.new ≡ barred cell (waited cell count (known pass.old)))
+            × WasShut C.about C.history C.writer C.law C.tells C.settled C.is_shut
+            C.fault_count (known pass.old) cell) }
+        ensures same { IfNone result (fault_words pass.new ≡ fault_words pass.old) }
     {
         for _ in rt.forever() {
-            if let Some(turn) = self.try_turn(pass, cell) {
-                return turn;
+            match self.attempt(pass, cell) {
+                Ok(turn) => return Some(turn),
+                Err(Absence::Shut) => return None,
+                Err(Absence::Taken) => thread::yield_now(),
             }
-            thread::yield_now();
         }
         unreachable!()
     }
@@ -143,13 +208,14 @@ impl<C: CellState> TurnTable<C> {
             ≡ turn_history C.history turn.now }
         ensures others { AddsOthers C.writer (known pass.old) turn.now.cell
             (turn_history C.history turn.now) }
-        ensures glimpse { Glimpse C.about C.history C.writer C.law C.tells turn.now.cell
-            (known pass.new) }
+        ensures glimpse { Glimpse C.about C.history C.writer C.law C.tells C.settled C.is_shut
+            C.fault_count turn.now.cell (known pass.new) }
+        ensures faults { fault_words pass.new ≡ fault_words pass.old }
     {
         let place = turn.cell as usize;
         self.board
             .shared
-            .load::<Look<C>>(&mut pass.seat, 2 * place + 2);
+            .load::<Look<C>>(&mut pass.seat, 3 * place + 2);
     }
 
     /// Shows a pass one moment of the table, at which the law holds of all histories. It sees no
@@ -158,7 +224,9 @@ impl<C: CellState> TurnTable<C> {
         requires { table_of pass.old ≡ self.now.board.shared.table_id }
         ensures own { table_of pass.new ≡ table_of pass.old }
         ensures known { known pass.new ≡ known pass.old }
-        ensures watched { Watched C.about C.history C.writer C.law C.tells (known pass.old) }
+        ensures watched { Watched C.about C.history C.writer C.law C.tells C.settled C.is_shut
+            C.fault_count (known pass.old) }
+        ensures faults { fault_words pass.new ≡ fault_words pass.old }
     {
         self.board.shared.load::<Watch<C>>(&mut pass.seat, 0);
     }
@@ -192,6 +260,10 @@ impl<C: CellState> TurnTable<C> {
             ≡ Some (turn_history C.history turn.new) }
         ensures seen { at (known pass.new).seen turn.new.cell
             ≡ turn_history C.history turn.new }
+        ensures sound { IfSome turn.new.value
+            (λ value. C.settled value × (C.is_shut value ≡ false)) }
+        ensures faults { (turn_faults C.fault_count turn.new ≡ turn_faults C.fault_count turn.old)
+            × (fault_words pass.new ≡ fault_words pass.old) }
     {
         let cell = turn.cell;
         let place = cell as usize;
@@ -203,25 +275,55 @@ impl<C: CellState> TurnTable<C> {
         // The step tells what lies in the slot, so the value lies there while it is made.
         let shared = &self.board.shared;
         shared.exchange(&mut pass.seat, place, Some(value));
-        shared.fetch_add::<Seal<C>>(&mut pass.seat, 2 * place + 2, more);
+        shared.fetch_add::<Seal<C>>(&mut pass.seat, 3 * place + 2, more);
         turn.value = shared.exchange(&mut pass.seat, place, None);
     }
 
-    /// Gives a turn back that the pass took, in whatever order it took its turns.
+    /// Notes the count of faults of the value whose turn it is, for all passes. A turn can only be
+    /// given back while the count that was noted last is the value's.
+    pub fn note(&self, pass: &mut Pass<C, C::About, C::Entry>, turn: &mut Turn<C>)
+        requires own { table_of pass.old ≡ self.now.board.shared.table_id }
+        requires turn { hand (known pass.old) turn.old.cell
+            ≡ Some (turn_history C.history turn.old) }
+        ensures own { table_of pass.new ≡ table_of pass.old }
+        ensures turn { turn.new ≡ turn.old }
+        ensures noted { known pass.new
+            ≡ noted turn.old.cell (fault_word pass.old turn.old.cell)
+            (turn_faults C.fault_count turn.old) (known pass.old) }
+        ensures holds { hand (known pass.new) turn.new.cell
+            ≡ Some (turn_history C.history turn.new) }
+        ensures faults { (fault_word pass.new turn.new.cell ≡ turn_faults C.fault_count turn.new)
+            × (fault_words pass.new
+            ≡ slice_set (fault_words pass.old) turn.new.cell (turn_faults C.fault_count turn.new)) }
+    {
+        let word = 3 * (turn.cell as usize) + 3;
+        let faults = turn.state().faults();
+        self.board
+            .shared
+            .swap::<Note<C>>(&mut pass.seat, word, faults);
+    }
+
+    /// Gives a turn back that the pass took, in whatever order it took its turns. Where the value
+    /// is shut, no pass has its turn from then on.
     pub fn give(&self, pass: &mut Pass<C, C::About, C::Entry>, turn: Turn<C>)
         requires own { table_of pass.old ≡ self.now.board.shared.table_id }
         requires turn { hand (known pass.old) turn.cell ≡ Some (turn_history C.history turn) }
         requires about { turn_about C.about turn ≡ slice_get (known pass.old).about turn.cell }
+        requires settled { IfSome turn.value
+            (λ value. C.settled value ⊎ (C.is_shut value ≡ true)) }
+        requires noted { fault_word pass.old turn.cell ≡ turn_faults C.fault_count turn }
         ensures own { table_of pass.new ≡ table_of pass.old }
         ensures gave { known pass.new ≡ gave turn.cell (known pass.old) }
         ensures free { hand (known pass.new) turn.cell ≡ None }
+        ensures faults { fault_words pass.new ≡ fault_words pass.old }
     {
         let shared = &self.board.shared;
+        let word = word_of(turn.state().shut());
         let Turn { value, cell } = turn;
         let place = cell as usize;
         pass.bring(cell);
         shared.exchange(&mut pass.seat, place, value);
-        shared.swap::<Give<C>>(&mut pass.seat, 2 * place + 1, 0);
+        shared.swap::<Give<C>>(&mut pass.seat, 3 * place + 1, word);
         pass.held.pop_front();
     }
 
@@ -250,4 +352,11 @@ impl<C: CellState> TurnTable<C> {
         let seat = gather(&board.shared, passes, first.into_seat());
         Sequence::from_vec(unload(board.close_with(seat), room, cells as usize))
     }
+}
+
+// The turn word of a cell whose value is at home.
+fn word_of(shut: bool) -> u64
+    ensures { result ≡ cond shut 2 0 }
+{
+    if shut { 2 } else { 0 }
 }

@@ -4,9 +4,9 @@ use Rattle.std.proofs.lemmas.List.{drop_more, map-append, map_more}
 use Rattle.std.proofs.lemmas.List.Elements.{All-push}
 use Rattle.atomic_table.specs.Table.{Splits}
 use Rattle.turn_table.specs.Calls.{known, table_of}
-use Rattle.turn_table.specs.Knowledge.{dealt, fresh, lone}
+use Rattle.turn_table.specs.Knowledge.{blank, dealt, fresh, lone}
 use Rattle.turn_table.specs.Rule.{Kept}
-use Rattle.turn_table.proofs.DealLemmas.{deals}
+use Rattle.turn_table.proofs.DealLemmas.{deals, free-fresh}
 use Rattle.turn_table.proofs.deals.deal.Goals as goal
 
 pub split_seat-requires : goal.split_seat-requires
@@ -20,12 +20,15 @@ split_seat-requires g c =
     ∙ ap (λ l. dealt (map F l)) (drop_more xs i 0 (search rules)) in (
       c.loop-number.invariant.table,
       c.requires.table.1,
-      subst (λ v. Splits (Kept T.about T.history T.writer T.law T.tells
+      subst (λ v. Splits (Kept T.about T.history T.writer T.law T.tells T.settled T.is_shut
+          T.fault_count
           (map T.about key.cells.value) (map T.history key.cells.value) key.numbers.value)
-          c.loop-number.seat.id v (dealt v.more) (lone v.pass)) (sym me)
-          (deals T.about T.history T.writer T.law T.tells (map T.about key.cells.value)
+          c.loop-number.seat.id v (dealt v.more) (lone (blank v.pass) v.pass)) (sym me)
+          (deals T.about T.history T.writer T.law T.tells T.settled T.is_shut T.fault_count (map
+          T.about key.cells.value)
           (map T.history key.cells.value) key.numbers.value c.loop-number.seat.id
-          (F (get_or xs i 0)) (map F (drop (i + 1) xs))),
+          (F (get_or xs i 0)) (map F (drop (i + 1) xs))
+          (free-fresh _ _ _ _ (get_or xs i 0 ∷ drop (i + 1) xs))),
     )
 
 pub loop-number-preserved : goal.loop-number-preserved

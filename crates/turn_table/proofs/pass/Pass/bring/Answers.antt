@@ -3,7 +3,7 @@ use Rattle.atomic_table.specs.Table.{turned}
 use Rattle.turn_table.specs.Carried.{emptied, times}
 use Rattle.turn_table.specs.Knowledge.{lone}
 use Rattle.turn_table.proofs.CarriedLemmas.{before, before-turned, begins_with, emptied-turned, held-turned, times-turned}
-use Rattle.turn_table.proofs.KnowledgeLemmas.{held_same, wide_same}
+use Rattle.turn_table.proofs.KnowledgeLemmas.{faults_long, held_same, wide_same}
 use Rattle.turn_table.proofs.pass.Pass.bring.Goals as goal
 
 pub returns-then-first-cell-clause-front : goal.returns-then-first-cell-clause-front
@@ -34,9 +34,10 @@ pub invariant_of-self : goal.invariant_of-self
 invariant_of-self g c =
     let p = c.loop-first.self in let view = ap (λ m. m.0) c.turn.ensures.2 in
     let table = c.turn.ensures.0 in let items = c.rotate_left.ensures.items in record {
-      alone = view ∙ (p.alone ∙ ap (λ v. lone v.pass) (sym view));
+      alone = view ∙ (p.alone ∙ ap (λ v. lone v.faults v.pass) (sym view));
       named = ap (λ v. v.pass.number) view ∙ p.named;
       wide = wide_same _ _ _ _ view table p.wide;
+      noted = faults_long _ _ _ _ view table p.noted;
       carried = ap (λ m. m.1) c.turn.ensures.2 ∙ (ap turned p.carried
           ∙ (emptied-turned p.held.items
           ∙ ap emptied (sym items)));

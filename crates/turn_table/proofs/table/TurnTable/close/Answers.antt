@@ -1,7 +1,7 @@
-use Rattle.std.proofs.Common.{◌≡◌, ◌≢◌, ◌++◌, map, Some, sym, ap, ◌∙◌, subst, arith}
-use Rattle.std.specs.Prelude.{Contains}
+use Rattle.std.proofs.Common.{◌≡◌, ◌≢◌, ◌++◌, [], map, Some, sym, ap, ◌∙◌, subst, arith}
+use Rattle.std.specs.Prelude.{All, Contains}
 use Rattle.std.specs.Slots.{slots_counts, slots_items}
-use Rattle.std.proofs.lemmas.List.Elements.{All-pop, All-weaker}
+use Rattle.std.proofs.lemmas.List.Elements.{All-cons, All-nil, All-pop, All-weaker}
 use lib.ListN.{length-map}
 use Rattle.turn_table.specs.Calls.{known, table_of}
 use Rattle.turn_table.specs.Carried.{emptied}
@@ -37,6 +37,14 @@ gather-seat-requires-clause-free g c =
     let split = sym c.into_vec-passes.ensures ∙ c.in-Some.ensures.items in
     (All-pop (λ pass. IsFree (known pass)) _ _ (Some c.in-Some.first) split c.requires.free).0
 
+pub gather-seat-requires-clause-idle : goal.gather-seat-requires-clause-idle
+gather-seat-requires-clause-idle g c =
+    let first = c.in-Some.first in
+    let split = sym c.into_vec-passes.ensures ∙ c.in-Some.ensures.items in
+    let free = All-pop (λ pass. IsFree (known pass)) _ _ (Some first) split c.requires.free in
+    let one = ap (λ s. passes_of s.me.0) c.into_seat.ensures ∙ ap passes_of first.alone in
+    subst (All IsFree) (sym one) (All-cons IsFree (known first) [] free.1 (All-nil IsFree))
+
 pub unload-requires : goal.unload-requires
 unload-requires g c =
     let T = g.C.CellState in let t = c.args.self in let key = t.board.shared.key in
@@ -49,7 +57,8 @@ unload-requires g c =
     let all = All-weaker _ (Contains (map (λ k. k.number) ks)) there key.numbers.value
     c.requires.all in
     let free = free_there known c.args.passes front first split ks taken c.requires.free in
-    let done = ends T.about T.history T.writer T.law T.tells (map T.about key.cells.value)
+    let done = ends T.about T.history T.writer T.law T.tells T.settled T.is_shut T.fault_count (map
+    T.about key.cells.value)
     (map T.history key.cells.value) key.numbers.value seat.id seat.me.0 _
     (slots_items c.close_with.result.slots) all free c.close_with.ensures.values.2 in
     let n = c.close_with.ensures.counts.1 in let slots = t.slots in
@@ -73,7 +82,8 @@ returns g c =
     let all = All-weaker _ (Contains (map (λ k. k.number) ks)) there key.numbers.value
     c.requires.all in
     let free = free_there known c.args.passes front first split ks taken c.requires.free in
-    let done = ends T.about T.history T.writer T.law T.tells (map T.about key.cells.value)
+    let done = ends T.about T.history T.writer T.law T.tells T.settled T.is_shut T.fault_count (map
+    T.about key.cells.value)
     (map T.history key.cells.value) key.numbers.value seat.id seat.me.0 _
     (slots_items c.close_with.result.slots) all free c.close_with.ensures.values.2 in
     let Now = c.unload.result.items in

@@ -1,4 +1,4 @@
-use Rattle.std.proofs.Common.{ℕ, zero, suc, ◌+◌, ◌≡◌, ◌≤◌, List, [], ◌∷◌, get_or, set, sym, refl, ap, ◌∙◌, arith}
+use Rattle.std.proofs.Common.{ℕ, zero, suc, ◌+◌, ◌≡◌, ◌≤◌, List, [], ◌∷◌, get_or, set, sym, refl, ap, ◌∙◌, arith, Err}
 use Rattle.std.proofs.lemmas.List.{set-get_or}
 use Rattle.turn_table.specs.Knowledge.{missed}
 use Rattle.turn_table.proofs.table.TurnTable.turn.Goals as goal
@@ -23,18 +23,21 @@ loop-init g c = let k = c.args.pass.now.seat.me.0.pass in record {
     omega arith,
     λ i. record k { met = sym (set-get_or k.met c.args.cell 0) i },
   );
+  faults = refl;
 }
 
 pub loop-preserved : goal.loop-preserved
 loop-preserved g c =
     let k = c.args.pass.now.seat.me.0.pass in let inv = c.loop.invariant in
-    let e = c.in_default.ensures in let m = inv.known.0 in
+    let e = c.attempt.ensures in let m = inv.known.0 in
+    let absent = e.taken (c.in-Err-Taken.is ∙ ap Err c.in-Err-Taken.field-0-is) in
     let x = get_or (set k.met c.args.cell m) c.args.cell 0 + 1 in record {
       table = e.own ∙ inv.table;
       known = (
         x,
         rises k.met c.args.cell m inv.known.1,
-        e.absent.0 ∙ (ap (missed c.args.cell) inv.known.2
+        absent.0 ∙ (ap (missed c.args.cell) inv.known.2
             ∙ (λ i. record k { met = set-set k.met c.args.cell m x i })),
       );
+      faults = c.in-Err-Taken.ensures.same ∙ inv.faults;
     }
