@@ -62,7 +62,7 @@ map-of : {X Y Z : Type 0} (g : Y → Z) (f : X → Y) (xs : List X)
 map-of g f [] = refl
 map-of g f (x ∷ xs) = ap (λ l. g (f x) ∷ l) (map-of g f xs)
 
-module _ {A B C D : Type 0} (n : ℕ) (site : SiteOf SiteCell A B C D) where
+module _ {A B C D E : Type 0} (n : ℕ) (site : SiteOf SiteCell A B C D E) where
   -- new writers that worked, and then ended, have finished
   finished : (names : List NameShards) (number : ℕ) (old new : List Worker)
       (passes : List (PassOf TablePass)) → AreNew names number (map writer_at old)

@@ -81,7 +81,7 @@ all-of P f (y ∷ ys) h =
     All-cons (λ z. P (f z)) y ys (All-head P (f y) (map f ys) h)
     (all-of P f ys (All-tail P (f y) (map f ys) h))
 
-module _ {A B C D : Type 0} (site : SiteOf SiteCell A B C D) where
+module _ {A B C D E : Type 0} (site : SiteOf SiteCell A B C D E) where
   -- workers of passes of a site are workers of it
   pub made-at : (workers : List Worker) (passes : List (PassOf TablePass))
       → map inside_in workers ≡ map inside_of passes → All (IsPassAt site) passes

@@ -50,13 +50,13 @@ pub record IsPlan (plan : Plan) : Type 0 where
   pub query : tree_of plan.query ≡ query_tree
 
 -- the worker's pass was made for this site, and has no turn
-abbrev pub IsWorkerAt : {A B C D : Type 0} → SiteOf SiteCell A B C D → Worker → Type 0
+abbrev pub IsWorkerAt : {A B C D E : Type 0} → SiteOf SiteCell A B C D E → Worker → Type 0
 IsWorkerAt site worker = IsPassAt site worker.pass
 
 -- a worker worked in its thread: where it is done, it has done what its role is in a load of so
 -- many
 -- documents
-pub record IsWorked {A B C D : Type 0} (n : ℕ) (site : SiteOf SiteCell A B C D)
+pub record IsWorked {A B C D E : Type 0} (n : ℕ) (site : SiteOf SiteCell A B C D E)
     (old new : Worker) : Type 0 where
   pub own : IsPassAt site new.pass
   pub number : number_of new.pass ≡ number_of old.pass
@@ -64,7 +64,7 @@ pub record IsWorked {A B C D : Type 0} (n : ℕ) (site : SiteOf SiteCell A B C D
   pub done : new.is_done ≡ true → HasWorked n old.role (writer_of old.pass) (writer_of new.pass)
 
 -- the worker was done, and this is its pass behind what its role ends with
-pub record IsEnded {A B C D : Type 0} (site : SiteOf SiteCell A B C D) (worker : Worker)
+pub record IsEnded {A B C D E : Type 0} (site : SiteOf SiteCell A B C D E) (worker : Worker)
     (pass : PassOf TablePass) : Type 0 where
   pub own : IsPassAt site pass
   pub done : worker.is_done ≡ true

@@ -21,7 +21,7 @@ use Rattle.turn_table.specs.Histories.{at}
 use Rattle.turn_table.specs.Knowledge.{IsWide}
 use Rattle.turn_table.specs.Steps.{Watched}
 use Rattle.turn_table.specs.declared.knowledge.Known.{Known}
-use Rattle.site_cells.specs.Values.{about_in, law_of, log_of_cell, tells_of}
+use Rattle.site_cells.specs.Values.{about_in, faults_of, is_closed, law_of, log_of_cell, tells_of, IsSettled}
 use Rattle.running_site.specs.Passes.{writer_in, IsKnowing, IsListed}
 use Rattle.running_site.proofs.AloneLemmas.{only-one}
 use Rattle.running_site.proofs.KnownLemmas.{each_of, names_of}
@@ -52,7 +52,7 @@ lone-nothing numbers me log (e ∷ new) one listed others =
 module _ (names : List NameShards) (limit : ℕ) (k : Known CellAbout LogEntry)
     (knowing : IsKnowing names limit k) (numbers : k.numbers ≡ 1 ∷ [])
     (wide : IsWide k (cells_in names + 1))
-    (w : Watched about_in log_of_cell author_of law_of tells_of k) where
+    (w : Watched about_in log_of_cell author_of law_of tells_of IsSettled is_closed faults_of k) where
   -- its number is the only one
   me : k.number ≡ 1
   me = only-one 1 k.number (subst (λ ns. IsListed ns k.number) numbers knowing.listed)

@@ -1,7 +1,7 @@
 -- A pass that took a turn and looked in it.
-use Rattle.std.proofs.Common.{◌≡◌, ◌≢◌, ℕ, ◌<◌, List, [], ◌∷◌, ◌++◌, length, get_or, set, slice_index, refl, sym, ap, ◌∙◌, subst, arith, length-set}
-use Rattle.std.specs.Prelude.{All, Some, None, slice_get}
-use Rattle.std.proofs.lemmas.List.{get_or-set_other}
+use Rattle.std.proofs.Common.{◌≡◌, ◌≢◌, ℕ, ◌+◌, ◌<◌, false, true, List, [], ◌∷◌, ◌++◌, length, get_or, set, slice_index, refl, sym, ap, ◌∙◌, subst, arith, inl, inr, length-set}
+use Rattle.std.specs.Prelude.{All, Option, Some, None, slice_get}
+use Rattle.std.proofs.lemmas.List.{get_or-set_other, length-replicate}
 use Rattle.tuple_values.specs.declared.names.NameShards.{NameShards}
 use Rattle.shard_versions.specs.declared.cut.CutMark.{CutMark}
 use Rattle.shard_versions.specs.declared.cut.OwnMark.{OwnMark}
@@ -14,21 +14,43 @@ use Rattle.site_laws.specs.Sealings.{names_told}
 use Rattle.site_laws.specs.SiteCells.{IsLawful}
 use Rattle.site_laws.specs.declared.cell_about.CellAbout.{CellAbout}
 use Rattle.site_laws.proofs.LaterLemmas.{later-look}
-use Rattle.turn_table.specs.Calls.{turn_about, turn_history}
+use Rattle.turn_table.specs.Calls.{fault_word, turn_about, turn_faults, turn_history}
 use Rattle.turn_table.specs.Histories.{at}
 use Rattle.turn_table.specs.Knowledge.{hand, looked, took, waited}
-use Rattle.turn_table.specs.Steps.{AddsOthers, Glimpse}
+use Rattle.turn_table.specs.Steps.{AddsOthers, Glimpse, WasShut}
 use Rattle.turn_table.specs.declared.knowledge.Known.{Known}
 use Rattle.turn_table.specs.declared.turn.Turn.{Turn}
 use Rattle.site_cells.specs.Cells.{no_logs}
-use Rattle.site_cells.specs.Values.{about_in, law_of, log_of_cell, tells_of}
+use Rattle.site_cells.specs.Values.{about_in, faults_of, is_closed, law_of, log_of_cell, tells_of, IsSettled}
 use Rattle.site_cells.specs.declared.site_cell.SiteCell.{SiteCell}
-use Rattle.running_site.specs.Passes.{sight_in, writer_in, AreSeenFit, AreSeenSigned, IsListed}
-use Rattle.running_site.specs.Visits.{AreCounted, IsTurn, IsVisit}
+use Rattle.running_site.specs.Passes.{sight_in, writer_in, AreSeenFit, AreSeenSigned, IsKnowing, IsListed, TablePass}
+use Rattle.running_site.specs.Visits.{AreCounted, IsNoted, IsTurn, IsVisit}
 use Rattle.running_site.proofs.FitLemmas.{lawful-fit, set-fit}
 use Rattle.running_site.proofs.KnownLemmas.{are-were, each_of, names_of, one_more_is}
 use Rattle.running_site.proofs.SignedLemmas.{look-signed, set-signed}
 use Rattle.running_site.proofs.TopicLemmas.{counted-fit}
+
+-- the count of faults of the turn that is held
+pub noted-as : (p : TablePass) (o : Option (Turn SiteCell)) (t : Turn SiteCell) → o ≡ Some t
+    → fault_word p t.cell ≡ turn_faults faults_of t → IsNoted p o
+noted-as p o t is noted u e =
+    let same : t ≡ u = cc in
+    subst (λ (x : Turn SiteCell). fault_word p x.cell ≡ turn_faults faults_of x) same noted
+
+-- no cell of a site is ever shut
+pub never-shut : (names : List NameShards) (limit : ℕ) (k : Known CellAbout LogEntry)
+    → IsKnowing names limit k → (cell : ℕ) → cell < cells_in names + 1
+    → WasShut about_in log_of_cell author_of law_of tells_of IsSettled is_closed faults_of k cell → ⊥
+never-shut names limit k knowing cell within was =
+    let counted : length k.start ≡ cells_in names + 1 =
+    ap length knowing.begun ∙ length-replicate (cells_in names + 1) [] in
+    let grown = was.kept.counted in
+    let low : cell < length was.kept.histories = omega (arith, counted, grown, within) in
+    elim (was.kept.each_cell cell low).turn [
+      | inl home ↦ let is = was.shut in let zero = home.0 in absurd (omega (arith, is, zero))
+      | inr (inl out) ↦ let is = was.shut in let one = out.0 in absurd (omega (arith, is, one))
+      | inr (inr closed) ↦ let e : false ≡ true = closed.1.1 in absurd (cc)
+    ]
 
 module _ (k k1 k2 : Known CellAbout LogEntry) (cell count : ℕ) (t : Turn SiteCell)
     (here : t.cell ≡ cell)
@@ -77,7 +99,8 @@ module _ (k k1 k2 : Known CellAbout LogEntry) (cell count : ℕ) (t : Turn SiteC
       }
 
   module _ (names : List NameShards) (limit : ℕ) (v : IsVisit names limit k None)
-      (g : Glimpse about_in log_of_cell author_of law_of tells_of t.cell k2) where
+      (g : Glimpse about_in log_of_cell author_of law_of tells_of IsSettled is_closed faults_of
+      t.cell k2) where
     about-is : k2.about ≡ k.about
     about-is = ap (λ (x : Known CellAbout LogEntry). x.about) known-is
 

@@ -1,5 +1,5 @@
 -- A pass that appended in its turn.
-use Rattle.std.proofs.Common.{◌≡◌, ℕ, ◌+◌, ◌<◌, true, List, [], ◌∷◌, ◌++◌, length, map, set, refl, sym, ap, ◌∙◌, subst, arith, length-append, length-set}
+use Rattle.std.proofs.Common.{◌≡◌, ℕ, ◌+◌, ◌<◌, false, true, List, [], ◌∷◌, ◌++◌, length, map, set, refl, sym, ap, ◌∙◌, subst, arith, length-append, length-set}
 use Rattle.std.specs.Prelude.{IfSome, Option, Some, None, is_some, slice_get}
 use Rattle.std.specs.List.{AllByRecursion}
 use Rattle.std.proofs.lemmas.List.{get_or-set_other, length-map}
@@ -26,13 +26,13 @@ use Rattle.site_laws.specs.declared.sealing.Sealing.TheVariants as sealing
 use Rattle.site_laws.proofs.CellLemmas.{book-append}
 use Rattle.stream_site.proofs.TopicLemmas.{entry_fit}
 use Rattle.turn_table.specs.Calls as turns
-use Rattle.turn_table.specs.Calls.{turn_about, turn_history}
+use Rattle.turn_table.specs.Calls.{faults_in, turn_about, turn_history}
 use Rattle.turn_table.specs.Histories.{at}
 use Rattle.turn_table.specs.Knowledge.{hand, sealed}
 use Rattle.turn_table.specs.declared.knowledge.Known.{Known}
 use Rattle.turn_table.specs.declared.turn.Turn.{Turn}
-use Rattle.site_cells.specs.Values.{about_in, log_of_cell, IsRefused, IsTaken}
-use Rattle.site_cells.specs.declared.cell_refusal.CellRefusal.TheVariants.{OutOfMemory}
+use Rattle.site_cells.specs.Values.{about_in, faults_of, is_closed, log_of_cell, CanReserve, IsOverLimit, IsRefused, IsSettled}
+use Rattle.site_cells.specs.declared.cell_refusal.CellRefusal.TheVariants.{OutOfMemory, ShardFull}
 use Rattle.site_cells.specs.declared.cell_value.CellValue.{CellValue}
 use Rattle.site_cells.specs.declared.cell_value.CellValue.TheVariants as value
 use Rattle.site_cells.specs.declared.site_cell.SiteCell.{SiteCell}
@@ -68,13 +68,32 @@ pub of-there : {C : Type 0} (P : C → Type 0) (Q : Type 0) (o : Option C) → i
 of-there P Q None some f h = absurd (cc)
 of-there P Q (Some y) some f h = f y refl h
 
--- memory may be wanting for whatever there is room for
-pub memory-refused : (v : CellValue) (x : Sealing) → IsTaken v x → IsRefused v x OutOfMemory
-memory-refused (value.Shard s) (sealing.Shard step) taken = taken
-memory-refused (value.Shard s) (sealing.Book e) taken = taken
-memory-refused (value.Book b) (sealing.Shard step) taken = taken
-memory-refused (value.Book b) (sealing.Book (book.Bind by key c)) taken = tt
-memory-refused (value.Book b) (sealing.Book (book.Store by key upto)) taken = refl
+-- a shard is full of what passes its limit
+pub over-refused : (v : CellValue) (x : Sealing) → IsOverLimit v x → IsRefused v x ShardFull
+over-refused (value.Shard s) (sealing.Shard step) over = over
+over-refused (value.Shard s) (sealing.Book e) over = absurd over
+over-refused (value.Book b) (sealing.Shard step) over = absurd over
+over-refused (value.Book b) (sealing.Book e) over = absurd over
+
+-- memory may be wanting for whatever doesn't pass it
+pub memory-refused : (v : CellValue) (x : Sealing) → CanReserve v x → ¬ IsOverLimit v x
+    → IsRefused v x OutOfMemory
+memory-refused (value.Shard s) (sealing.Shard step) can under = under
+memory-refused (value.Shard s) (sealing.Book e) can under = can
+memory-refused (value.Book b) (sealing.Shard step) can under = can
+memory-refused (value.Book b) (sealing.Book (book.Bind by key c)) can under = tt
+memory-refused (value.Book b) (sealing.Book (book.Store by key upto)) can under = refl
+
+-- no cell has a disk that might fail
+pub none-failed : (o : Option SiteCell) → faults_in faults_of o ≡ 0
+none-failed None = refl
+none-failed (Some cell) = refl
+
+-- so none waits for one, or is shut
+pub all-sound : (o : Option SiteCell)
+    → IfSome o (λ cell. IsSettled cell × (is_closed cell ≡ false))
+all-sound None = tt
+all-sound (Some cell) = (tt, refl)
 
 -- a turn with another value of the same log
 pub turned-visit : (names : List NameShards) (limit : ℕ) (k : Known CellAbout LogEntry)

@@ -1,6 +1,7 @@
 -- A site with its cells may be shared by threads, and a cell may go to one.
 use denote.Param.Send.{IsSend, IsSync, sendable}
 use denote.Param.SendFields.{as_row_send, as_row_sync}
+use denote.Struct.Field.{unit-field}
 use Rattle.std.proofs.Crossing as heap
 use Rattle.std.proofs.MapsCrossing as maps
 use Rattle.atomic_table.proofs.shared.Shared.TheSendSync as shared
@@ -135,17 +136,17 @@ names_sync : IsSync (Sequence.the_row NameShards.the_row)
 names_sync = search (text_sync, heap.crosses, sendable) depth 60 fits 20000
 
 table_sync
-    : IsSync (TurnTable.the_field SiteCell.the_row CellAbout.the_row LogEntry.the_row Sealing.the_row CellRefusal.the_row ghosts).row
+    : IsSync (TurnTable.the_field SiteCell.the_row CellAbout.the_row LogEntry.the_row Sealing.the_row unit-field.row CellRefusal.the_row ghosts).row
 table_sync =
     search (cell_send, cell_sync, shared.the_sync, lease.the_sync, heap.crosses, sendable)
     depth 60 fits 20000
 
 all_sync
-    : IsSync (SiteOf.the_field SiteCell.the_row CellAbout.the_row LogEntry.the_row Sealing.the_row CellRefusal.the_row ghosts).row
+    : IsSync (SiteOf.the_field SiteCell.the_row CellAbout.the_row LogEntry.the_row Sealing.the_row unit-field.row CellRefusal.the_row ghosts).row
 all_sync = search (table_sync, names_sync, heap.crosses, sendable) depth 60 fits 20000
 
 pub site_sync
-    : IsSync (SiteOf.the_row SiteCell.the_row CellAbout.the_row LogEntry.the_row Sealing.the_row CellRefusal.the_row ghosts)
+    : IsSync (SiteOf.the_row SiteCell.the_row CellAbout.the_row LogEntry.the_row Sealing.the_row unit-field.row CellRefusal.the_row ghosts)
 site_sync =
-    as_row_sync (SiteOf.the_field SiteCell.the_row CellAbout.the_row LogEntry.the_row Sealing.the_row CellRefusal.the_row ghosts)
+    as_row_sync (SiteOf.the_field SiteCell.the_row CellAbout.the_row LogEntry.the_row Sealing.the_row unit-field.row CellRefusal.the_row ghosts)
     all_sync

@@ -1,5 +1,5 @@
 -- The passes and the cells with which a site starts.
-use Rattle.std.proofs.Common.{◌≡◌, ℕ, zero, suc, ◌+◌, ◌<◌, List, [], ◌∷◌, length, get_or, map, replicate, slice_index, refl, sym, ap, ◌∙◌, subst, arith}
+use Rattle.std.proofs.Common.{◌≡◌, ℕ, zero, suc, ◌+◌, ◌<◌, false, List, [], ◌∷◌, length, get_or, map, replicate, slice_index, refl, sym, ap, ◌∙◌, subst, arith}
 use Rattle.std.specs.Prelude.{All, Contains, Option, Some, None}
 use Rattle.std.specs.List.{AllByRecursion}
 use Rattle.std.proofs.lemmas.List.{length-map, length-replicate}
@@ -20,7 +20,7 @@ use Rattle.turn_table.specs.Knowledge.{fresh, hand}
 use Rattle.turn_table.specs.declared.knowledge.Known.{Known}
 use Rattle.turn_table.specs.declared.rule.Opening.{Opening}
 use Rattle.site_cells.specs.Cells.{abouts_of, no_logs}
-use Rattle.site_cells.specs.Values.{about_in, log_of_cell}
+use Rattle.site_cells.specs.Values.{about_in, is_closed, log_of_cell, IsSettled}
 use Rattle.site_cells.specs.declared.site_cell.SiteCell.{SiteCell}
 use Rattle.running_site.specs.Passes.{layout_in, new_writer, sight_in, sight_where, writer_in, writer_of, writer_where, IsKnowing, IsOpened, IsPassIn, IsPassOf, TablePass}
 use Rattle.running_site.specs.Records.{content, recorded}
@@ -174,3 +174,9 @@ fresh-now (q ∷ inside) (p ∷ made) e =
       ap (λ (t : Option TablePass × List CutMark × List OwnMark × ℕ). t.3) here,
       fresh-now inside made rest,
     )
+
+-- no cell waits for a log, or is shut
+pub all-idle : (cells : List SiteCell)
+    → AllByRecursion (λ cell. IsSettled cell × (is_closed cell ≡ false)) cells
+all-idle [] = tt
+all-idle (cell ∷ cells) = ((tt, refl), all-idle cells)

@@ -9,14 +9,14 @@ use Rattle.topic_book.specs.declared.topic.TopicKey.{TopicKey}
 use Rattle.exchange_rules.specs.Cells.{book_in}
 use Rattle.exchange_rules.specs.declared.log_entry.LogEntry.{LogEntry}
 use Rattle.site_laws.specs.declared.cell_about.CellAbout.{CellAbout}
-use Rattle.turn_table.specs.Calls.{turn_about, turn_history}
+use Rattle.turn_table.specs.Calls.{fault_word, turn_about, turn_faults, turn_history}
 use Rattle.turn_table.specs.Histories.{at}
 use Rattle.turn_table.specs.Knowledge.{hand, IsFree}
 use Rattle.turn_table.specs.declared.knowledge.Known.{Known}
 use Rattle.turn_table.specs.declared.turn.Turn.{Turn}
-use Rattle.site_cells.specs.Values.{about_in, log_of_cell}
+use Rattle.site_cells.specs.Values.{about_in, faults_of, log_of_cell}
 use Rattle.site_cells.specs.declared.site_cell.SiteCell.{SiteCell}
-use Rattle.running_site.specs.Passes.{IsKnowing}
+use Rattle.running_site.specs.Passes.{IsKnowing, TablePass}
 
 -- each topic that is bound in the book has an initial number for each shard of its source
 abbrev pub AreCounted : List NameShards → Book → Type 0
@@ -27,6 +27,11 @@ AreCounted names book = (key : TopicKey) (b : Binding) → binding_of key book �
 abbrev pub HasTurn : Option (Turn SiteCell) → ℕ → Type 0
 HasTurn None cell = ⊥
 HasTurn (Some turn) cell = turn.cell ≡ cell
+
+-- the table's count of faults of the cell whose turn a pass has is that of the cell's disk
+abbrev pub IsNoted : TablePass → Option (Turn SiteCell) → Type 0
+IsNoted pass turn =
+    (t : Turn SiteCell) → turn ≡ Some t → fault_word pass t.cell ≡ turn_faults faults_of t
 
 -- the one turn of a pass, which has looked in it; the topics that it has seen are counted by these collections
 pub record IsTurn (names : List NameShards) (k : Known CellAbout LogEntry) (turn : Turn SiteCell)

@@ -1,8 +1,8 @@
 // What is appended in a turn.
 ghost use Rattle.std.specs.Prelude.{◌≡◌, ◌<◌, IfErr, IfSome, OnErr, OnOk, Some, vec_capacity, vec_len};
 ghost use Rattle.site_laws.specs.Sealings.{MayAppend};
-ghost use Rattle.turn_table.specs.Calls.{known, table_of, turn_about, turn_history};
-ghost use Rattle.site_cells.specs.Values.{about_in, log_of_cell, value_of, CanReserve, HasRoomFor, IsRefused, IsTaken};
+ghost use Rattle.turn_table.specs.Calls.{fault_word, known, table_of, turn_about, turn_faults, turn_history};
+ghost use Rattle.site_cells.specs.Values.{about_in, faults_of, log_of_cell, value_of, CanReserve, HasRoomFor, IsRefused, IsTaken};
 ghost use Rattle.running_site.specs.Seals.{IsSealed};
 ghost use Rattle.running_site.specs.Visits.{IsVisit};
 
@@ -13,7 +13,7 @@ use site_cells::{CellRefusal, SiteCell};
 use site_laws::Sealing;
 use turn_table::{CellState, Turn};
 
-/// Makes room for a sealing in the cell whose turn this is, and for its mark.
+/// Makes room for the mark of a sealing, and then for it in the cell whose turn this is.
 fn room_for(
     pass: &TablePass,
     turn: &mut Turn<SiteCell>,
@@ -24,6 +24,7 @@ fn room_for(
     ensures cell { turn.new.cell ≡ turn.old.cell }
     ensures log { turn_history log_of_cell turn.new ≡ turn_history log_of_cell turn.old }
     ensures about { turn_about about_in turn.new ≡ turn_about about_in turn.old }
+    ensures noted { turn_faults faults_of turn.new ≡ turn_faults faults_of turn.old }
     ensures own { own.new.items ≡ own.old.items }
     ensures room { OnOk result (IfSome turn.new.value (λ cell. HasRoomFor (value_of cell) sealing.now)) }
     ensures mark { OnOk result (vec_len own.new < vec_capacity own.new) }
@@ -31,14 +32,14 @@ fn room_for(
     ensures cause { IfErr result
         (λ refusal. IfSome turn.old.value (λ cell. IsRefused (value_of cell) sealing.now refusal)) }
 {
-    match turn.reserve(pass, sealing) {
-        Ok(()) => {}
-        Err(refusal) => return Err(refusal),
+    if turn.state().is_over(sealing) {
+        return Err(CellRefusal::ShardFull);
     }
     match own.reserve(1) {
-        Ok(()) => Ok(()),
-        Err(_) => Err(CellRefusal::OutOfMemory),
+        Ok(()) => {}
+        Err(_) => return Err(CellRefusal::OutOfMemory),
     }
+    turn.reserve(pass, sealing)
 }
 
 /// Appends a sealing that has room, and its mark.
@@ -52,6 +53,7 @@ fn seal_ready(
 )
     requires seated { table_of pass.old ≡ site.now.table.board.shared.table_id }
     requires visit { IsVisit site.now.names site.now.limit (known pass.old) (Some turn.old) }
+    requires noted { fault_word pass.old turn.old.cell ≡ turn_faults faults_of turn.old }
     requires cell { turn.old.cell ≡ cell }
     requires room { IfSome turn.old.value (λ cell. HasRoomFor (value_of cell) sealing) }
     requires mark { vec_len own.old < vec_capacity own.old }
@@ -59,6 +61,7 @@ fn seal_ready(
         sealing }
     ensures seated { table_of pass.new ≡ table_of pass.old }
     ensures visit { IsVisit site.now.names site.now.limit (known pass.new) (Some turn.new) }
+    ensures noted { fault_word pass.new turn.new.cell ≡ turn_faults faults_of turn.new }
     ensures numbers { (known pass.new).numbers ≡ (known pass.old).numbers }
     ensures cell { turn.new.cell ≡ cell }
     ensures sealed { IsSealed (known pass.old) (known pass.new) own.old.items own.new.items cell
@@ -82,11 +85,13 @@ pub(crate) fn seal_in(
 ) -> Result<(), CellRefusal>
     requires seated { table_of pass.old ≡ site.now.table.board.shared.table_id }
     requires visit { IsVisit site.now.names site.now.limit (known pass.old) (Some turn.old) }
+    requires noted { fault_word pass.old turn.old.cell ≡ turn_faults faults_of turn.old }
     requires cell { turn.old.cell ≡ cell }
     requires allowed { MayAppend site.now.names (known pass.old).number (known pass.old).seen cell
         sealing }
     ensures seated { table_of pass.new ≡ table_of pass.old }
     ensures visit { IsVisit site.now.names site.now.limit (known pass.new) (Some turn.new) }
+    ensures noted { fault_word pass.new turn.new.cell ≡ turn_faults faults_of turn.new }
     ensures numbers { (known pass.new).numbers ≡ (known pass.old).numbers }
     ensures cell { turn.new.cell ≡ cell }
     ensures ok { OnOk result (IsSealed (known pass.old) (known pass.new) own.old.items own.new.items

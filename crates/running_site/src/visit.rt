@@ -2,7 +2,7 @@
 ghost use Rattle.std.specs.Prelude.{◌≡◌, None, Some};
 ghost use Rattle.turn_table.specs.Calls.{known, table_of};
 ghost use Rattle.running_site.specs.Passes.{IsOpened};
-ghost use Rattle.running_site.specs.Visits.{IsVisit};
+ghost use Rattle.running_site.specs.Visits.{IsNoted, IsVisit};
 
 use crate::Site;
 use crate::pass::TablePass;
@@ -26,4 +26,5 @@ pub struct Visit<'a, R> {
     ghost numbered: { (known pass).numbers ≡ site.now.table.board.shared.key.numbers.value },
     ghost opened: { IsOpened site.now.names site.now.limit site.now.table.board.shared.key.cells.value },
     ghost visit: { IsVisit site.now.names site.now.limit (known pass) turn },
+    ghost noted: { IsNoted pass turn },
 }

@@ -194,7 +194,9 @@ impl<R: Wait> Turns for Visit<'_, R> {
     fn look(&mut self, cell: u32) -> Result<(), Memory> {
         self.leave();
         self.marks.reserve(1)?;
-        let turn = self.site.table.turn(self.rt, &mut self.pass, cell);
+        let Some(turn) = self.site.table.turn(self.rt, &mut self.pass, cell) else {
+            unreachable!()
+        };
         self.site.table.look(&mut self.pass, &turn);
         let upto = turn.state().len();
         self.marks.push_reserved(CutMark { cell, upto });

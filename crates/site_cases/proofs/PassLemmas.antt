@@ -7,7 +7,7 @@ use Rattle.running_site.specs.declared.site.SiteOf.{SiteOf}
 use Rattle.site_cells.specs.declared.site_cell.SiteCell.{SiteCell}
 
 -- it stays the site's
-pub taken-at : {A B C D : Type 0} (site : SiteOf SiteCell A B C D) (old new : PassOf TablePass)
+pub taken-at : {A B C D E : Type 0} (site : SiteOf SiteCell A B C D E) (old new : PassOf TablePass)
     → new.pass ≡ old.pass → IsPassAt site old → IsPassAt site new
 taken-at site old new same own =
     subst (IsPassIn site.table.board.shared.table_id site.table.board.shared.key (layout_at site))

@@ -1,5 +1,5 @@
 -- What a cell of a site is told and has, and what it takes (own).
-use Rattle.std.specs.Prelude.{ℕ, ◌+◌, ◌<◌, true, false, List}
+use Rattle.std.specs.Prelude.{ℕ, ◌+◌, ◌<◌, Bool, true, false, List}
 use Rattle.tuple_values.specs.declared.names.NameShards.{NameShards}
 use Rattle.shard_versions.specs.Fitness.{AreStorable}
 use Rattle.shard_versions.specs.Shards.{HasRoom, Shard}
@@ -54,6 +54,18 @@ about_in cell = about_of cell.names.value cell.value
 abbrev pub log_of_cell : SiteCell → Log
 log_of_cell cell = log_in cell.value
 
+-- a cell has no log on a disk, so nothing waits for one
+abbrev pub IsSettled : SiteCell → Type 0
+IsSettled cell = Unit {0}
+
+-- none is ever shut
+abbrev pub is_closed : SiteCell → Bool
+is_closed cell = false
+
+-- and no disk of it fails
+abbrev pub faults_of : SiteCell → ℕ
+faults_of cell = 0
+
 -- the law over the logs of all cells: the core's
 abbrev pub law_of : List CellAbout → List Log → Type 0
 law_of abouts logs = IsLawful (names_told abouts) logs
@@ -65,6 +77,13 @@ tells_of abouts cell seen logs = IsLookCovered (names_told abouts) cell seen log
 -- with the step the shard's counted bytes pass its limit
 abbrev pub IsOver : Shard → List Entry → Type 0
 IsOver shard step = shard.limit < entries_bytes shard.entries + entries_bytes step
+
+-- a shard's step passes its limit
+abbrev pub IsOverLimit : CellValue → Sealing → Type 0
+IsOverLimit (value.Shard s) (sealing.Shard step) = IsOver s step
+IsOverLimit (value.Shard s) (sealing.Book e) = ⊥
+IsOverLimit (value.Book b) (sealing.Shard step) = ⊥
+IsOverLimit (value.Book b) (sealing.Book e) = ⊥
 
 -- room may be asked for: of a shard for what it can store, of the book for what may follow
 abbrev pub CanReserve : CellValue → Sealing → Type 0

@@ -1,6 +1,6 @@
 // The law between any two steps on the cells of a site.
 ghost use Rattle.turn_table.specs.Moments.{IsLawBetweenSteps};
-ghost use Rattle.site_cells.specs.Values.{about_in, law_of, log_of_cell};
+ghost use Rattle.site_cells.specs.Values.{about_in, faults_of, is_closed, law_of, log_of_cell, IsSettled};
 
 use crate::SiteCell;
 use atomic_table::TableRule;
@@ -11,7 +11,7 @@ use turn_table::{Opening, Turns, View, law_between_steps};
 /// Between any two steps on the table of a site the core's law holds of the histories in its cells,
 /// and its words and slots fit them.
 pub fn site_law_between_steps()
-    ensures { IsLawBetweenSteps about_in log_of_cell law_of
+    ensures { IsLawBetweenSteps about_in log_of_cell law_of IsSettled is_closed faults_of
         ⟦<Turns<SiteCell> as TableRule<Option<SiteCell>, View<CellAbout, LogEntry>, Opening<SiteCell>>>⟧.holds }
 {
     law_between_steps::<SiteCell>();

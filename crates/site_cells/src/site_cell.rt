@@ -1,11 +1,10 @@
 // A cell of a site.
-ghost use Rattle.std.specs.Prelude.{◌≡◌, false, true};
-ghost use Rattle.site_cells.specs.Values.{about_in, about_of, log_in, log_of_cell, value_of};
+ghost use Rattle.std.specs.Prelude.{◌≡◌, ◌↔◌, false, true};
+ghost use Rattle.site_cells.specs.Values.{about_in, about_of, log_in, log_of_cell, value_of, IsOverLimit};
 
-use crate::cell_refusal::refusal_of;
 use crate::{CellRefusal, CellValue};
 use exchange_rules::LogEntry;
-use shard_versions::{ShardFault, ShardState};
+use shard_versions::ShardState;
 use site_laws::{CellAbout, Sealing};
 use std::snapshot::Snapshot;
 use topic_book::BookState;
@@ -20,17 +19,20 @@ pub struct SiteCell {
 }
 
 impl CellState for SiteCell {
+    ghost use Rattle.std.specs.Prelude.{false};
     ghost use Rattle.exchange_rules.specs.Cells.{author_of};
     ghost use Rattle.site_laws.specs.Sealings.{entries_of, names_told, MayAppend};
     ghost use Rattle.site_laws.proofs.LookLemmas.{look-covered, look-stays};
     ghost use Rattle.site_laws.proofs.SealingLemmas.{sealing-keeps, sealing-signed};
-    ghost use Rattle.site_cells.specs.Values.{about_in, law_of, log_of_cell, tells_of, value_of, CanReserve, HasRoomFor, IsRefused, IsTaken};
+    ghost use Rattle.site_cells.specs.Values.{about_in, faults_of, is_closed, law_of, log_of_cell, tells_of, value_of, CanReserve, HasRoomFor, IsRefused, IsSettled, IsTaken};
 
     type About = CellAbout;
 
     type Entry = LogEntry;
 
     type Sealing = Sealing;
+
+    type Made = ();
 
     type Refusal = CellRefusal;
 
@@ -46,6 +48,16 @@ impl CellState for SiteCell {
 
     ghost refuses = { λ cell sealing refusal. IsRefused (value_of cell) sealing refusal };
 
+    ghost settled = { IsSettled };
+
+    ghost is_shut = { is_closed };
+
+    ghost fault_count = { faults_of };
+
+    ghost broke = { λ made. false };
+
+    ghost log_failed = { λ refusal. false };
+
     ghost writer = { author_of };
 
     ghost entries = { λ by sealing. entries_of sealing };
@@ -59,36 +71,24 @@ impl CellState for SiteCell {
 
     fn reserve(&mut self, by: u64, sealing: &Sealing) -> Result<(), CellRefusal> {
         let _by = by;
-        match (&mut self.value, sealing) {
-            (CellValue::Shard(shard), Sealing::Shard(step)) => match shard.reserve(step) {
-                Ok(()) => Ok(()),
-                Err(ShardFault::ShardFull) => Err(CellRefusal::ShardFull),
-                Err(ShardFault::OutOfMemory) => Err(CellRefusal::OutOfMemory),
-            },
-            (CellValue::Book(book), Sealing::Book(entry)) => match book.reserve(entry) {
-                Ok(()) => Ok(()),
-                Err(fault) => Err(refusal_of(fault)),
-            },
-            (CellValue::Shard(_), Sealing::Book(_)) => unreachable!(),
-            (CellValue::Book(_), Sealing::Shard(_)) => unreachable!(),
-        }
+        self.value.reserve(sealing)
     }
 
     fn append(&mut self, by: u64, sealing: Sealing) {
         let _by = by;
-        match (&mut self.value, sealing) {
-            (CellValue::Shard(shard), Sealing::Shard(step)) => shard.append(step),
-            (CellValue::Book(book), Sealing::Book(entry)) => book.append(entry),
-            (CellValue::Shard(_), Sealing::Book(_)) => unreachable!(),
-            (CellValue::Book(_), Sealing::Shard(_)) => unreachable!(),
-        }
+        self.value.append(sealing);
+    }
+
+    fn shut(&self) -> bool {
+        false
+    }
+
+    fn faults(&self) -> u64 {
+        0
     }
 
     fn len(&self) -> u64 {
-        match &self.value {
-            CellValue::Shard(shard) => shard.len(),
-            CellValue::Book(book) => book.len(),
-        }
+        self.value.len()
     }
 
     ghost keeps = { λ abouts by logs seen cell sealing law prefixes low whole may.
@@ -115,6 +115,14 @@ impl SiteCell {
             names: Snapshot::of(names),
             value,
         }
+    }
+
+    /// Whether the counted bytes of the shard pass its limit with those of the step; never of the book.
+    /// Takes no memory.
+    pub fn is_over(&self, sealing: &Sealing) -> bool
+        ensures { (result ≡ true) ↔ IsOverLimit (value_of self.now) sealing.now }
+    {
+        self.value.is_over(sealing)
     }
 
     /// The shard of a cell that isn't the book's.

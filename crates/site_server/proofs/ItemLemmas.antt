@@ -19,7 +19,7 @@ passes-for n doors (p ∷ passes) =
     ap (λ l. p ∷ l) (passes-for (rest_of n doors).0 (rest_of n doors).1 passes)
 
 -- the items of passes of a site are items of it
-pub items-at : {D A B C E : Type 0} (site : SiteOf SiteCell A B C E) (n : ℕ) (doors : List D)
+pub items-at : {D A B C E F : Type 0} (site : SiteOf SiteCell A B C E F) (n : ℕ) (doors : List D)
     (passes : List (PassOf TablePass))
     → All (IsPassAt site) passes → All (IsItemAt site) (items_for n doors passes)
 items-at site n doors [] own = All-nil (IsItemAt site)
@@ -29,8 +29,8 @@ items-at {D} site n doors (p ∷ passes) own =
     (items-at site (rest_of n doors).0 (rest_of n doors).1 passes
     (All-tail (IsPassAt site) p passes own))
 
-module _ {D I O A B C E : Type 0} (kind : Doors D I O) (tells : ℕ → Type 0)
-    (site : SiteOf SiteCell A B C E) where
+module _ {D I O A B C E F : Type 0} (kind : Doors D I O) (tells : ℕ → Type 0)
+    (site : SiteOf SiteCell A B C E F) where
   -- each of the first items was carried out, and is now the one at its place
   abbrev pub AreServed : List (Item D) → List (Item D) → Type 0
   AreServed [] [] = Unit {0}

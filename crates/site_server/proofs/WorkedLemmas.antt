@@ -33,8 +33,8 @@ tails : (x y : Writer) (xs ys : List Writer)
     → let l : List Writer = x ∷ xs in l ≡ y ∷ ys → xs ≡ ys
 tails x y xs ys e = cc
 
-module _ {D I O A B C E : Type 0} (kind : Doors D I O) (tells : ℕ → Type 0)
-    (site : SiteOf SiteCell A B C E) where
+module _ {D I O A B C E F : Type 0} (kind : Doors D I O) (tells : ℕ → Type 0)
+    (site : SiteOf SiteCell A B C E F) where
   -- no runner has a door, and none failed
   record Idle (after : List (Item D)) : Type 0 where
     none : doors_in after ≡ []

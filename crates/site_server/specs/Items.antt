@@ -16,7 +16,7 @@ abbrev pub Item : Type 0 → Type 0
 Item D = ItemOf D (PassOf TablePass)
 
 -- its pass was made for this site, and has no turn
-abbrev pub IsItemAt : {D A B C E : Type 0} → SiteOf SiteCell A B C E → Item D → Type 0
+abbrev pub IsItemAt : {D A B C E F : Type 0} → SiteOf SiteCell A B C E F → Item D → Type 0
 IsItemAt site item = IsPassAt site item.pass
 
 -- what became of a door, where there is one
@@ -28,8 +28,8 @@ WasServed {D} kind tells l w v (Some old) new run =
     × IsDoorServed kind tells l w v old d r
 
 -- an item was carried out: a worker's door was served by its pass
-pub record IsItemServed {D I O A B C E : Type 0} (kind : Doors D I O) (tells : ℕ → Type 0)
-    (site : SiteOf SiteCell A B C E) (old new : Item D) : Type 0 where
+pub record IsItemServed {D I O A B C E F : Type 0} (kind : Doors D I O) (tells : ℕ → Type 0)
+    (site : SiteOf SiteCell A B C E F) (old new : Item D) : Type 0 where
   pub own : IsPassAt site new.pass
   pub number : number_of new.pass ≡ number_of old.pass
   pub door : WasServed kind tells (layout_at site) (writer_of old.pass) (writer_of new.pass)

@@ -69,3 +69,6 @@ covered_later cell seen histories later covered prefixes second =
 pub signed_one : (by amount : ℕ) → All (λ (e : Amount). e.0 ≡ by) ((by, amount) ∷ [])
 signed_one by amount = All-cons (λ (e : Amount). e.0 ≡ by) (by, amount) [] refl
     (All-nil (λ (e : Amount). e.0 ≡ by))
+
+pub signed_by : (by : ℕ) → All (λ (e : ℕ). e ≡ by) (by ∷ [])
+signed_by by = All-cons (λ (e : ℕ). e ≡ by) by [] refl (All-nil (λ (e : ℕ). e ≡ by))

@@ -10,6 +10,8 @@ mod making;
 #[cfg(test)]
 mod of_running_site;
 #[cfg(test)]
+mod of_shut_cells;
+#[cfg(test)]
 mod of_site_calls;
 #[cfg(test)]
 mod of_stream_site;

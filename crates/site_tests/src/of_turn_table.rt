@@ -27,7 +27,7 @@ impl Model for Tally {
 }
 
 impl CellState for Tally {
-    ghost use Rattle.std.specs.Prelude.{◌<◌, [], ◌∷◌, length};
+    ghost use Rattle.std.specs.Prelude.{◌<◌, [], ◌∷◌, false, length};
     ghost use Rattle.std.proofs.Common.{refl};
     ghost use Rattle.std.proofs.lemmas.List.Elements.{All-cons, All-nil};
     ghost use Rattle.site_tests.specs.Tallies.{IsBehind, IsCovered, MayAdd, behind_kept, covered_at_look, covered_later, signed_one};
@@ -37,6 +37,8 @@ impl CellState for Tally {
     type Entry = (u64, u64);
 
     type Sealing = u64;
+
+    type Made = ();
 
     type Refusal = AllocError;
 
@@ -51,6 +53,16 @@ impl CellState for Tally {
     ghost takes = { λ tally amount. Unit {0} };
 
     ghost refuses = { λ tally amount refusal. Unit {0} };
+
+    ghost settled = { λ tally. Unit {0} };
+
+    ghost is_shut = { λ tally. false };
+
+    ghost fault_count = { λ tally. 0 };
+
+    ghost broke = { λ made. false };
+
+    ghost log_failed = { λ refusal. false };
 
     ghost writer = { λ entry. entry.0 };
 
@@ -70,6 +82,14 @@ impl CellState for Tally {
 
     fn append(&mut self, by: u64, sealing: u64) {
         self.entries.push_reserved((by, sealing));
+    }
+
+    fn shut(&self) -> bool {
+        false
+    }
+
+    fn faults(&self) -> u64 {
+        0
     }
 
     fn len(&self) -> u64 {
@@ -210,7 +230,9 @@ fn add<R: Wait>(
     ensures free { IsFree (known result.0) }
     ensures number { (known result.0).number ≡ (known pass).number }
 {
-    let mut turn = table.turn(rt, &mut pass, 0);
+    let Some(mut turn) = table.turn(rt, &mut pass, 0) else {
+        return (pass, false);
+    };
     table.look(&mut pass, &turn);
     let room = turn.reserve(&pass, &amount).is_ok();
     if room {

@@ -20,5 +20,5 @@ abbrev pub number_in : Worker → ℕ
 number_in worker = number_of worker.pass
 
 -- the pass of this worker was made for this site, and has no turn
-abbrev pub IsWorkerAt : {A B C D : Type 0} → SiteOf SiteCell A B C D → Worker → Type 0
+abbrev pub IsWorkerAt : {A B C D E : Type 0} → SiteOf SiteCell A B C D E → Worker → Type 0
 IsWorkerAt site worker = IsPassAt site worker.pass

@@ -17,14 +17,14 @@ map-same f (x ∷ xs) (y ∷ ys) n h =
     (λ i. h 0 x (omega arith) i ∷ map-same f xs ys (omega (arith, n)) (λ k d lt. h (suc k) d (omega (arith, lt))) i)
 
 -- workers that were served have their passes at the site
-pub served-own : {A B C D : Type 0} (site : SiteOf SiteCell A B C D) (old new : List Worker)
+pub served-own : {A B C D E : Type 0} (site : SiteOf SiteCell A B C D E) (old new : List Worker)
     → length new ≡ length old
     → ((k : ℕ) (d : Worker) → k < length old → IsServed site (get_or old k d) (get_or new k d))
     → All (IsWorkerAt site) new
 served-own site old new n h k d lt = (h k d (omega (arith, n, lt))).own
 
 -- and their numbers
-pub served-numbers : {A B C D : Type 0} (site : SiteOf SiteCell A B C D) (old new : List Worker)
+pub served-numbers : {A B C D E : Type 0} (site : SiteOf SiteCell A B C D E) (old new : List Worker)
     → length new ≡ length old
     → ((k : ℕ) (d : Worker) → k < length old → IsServed site (get_or old k d) (get_or new k d))
     → map number_in new ≡ map number_in old

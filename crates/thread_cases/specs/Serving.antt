@@ -28,7 +28,7 @@ IsCallOf ComeLate call = IsRun call
 -- a task was carried out by calls of it alone: the record has the looks and own steps of just these
 -- calls, and the pass, whose record begins anew, has seen what they saw. It is of the same site, and
 -- has its number
-pub record IsServed {A B C D : Type 0} (site : SiteOf SiteCell A B C D) (old new : Worker)
+pub record IsServed {A B C D E : Type 0} (site : SiteOf SiteCell A B C D E) (old new : Worker)
     : Type 0 where
   pub own : IsWorkerAt site new
   pub number : number_in new ≡ number_in old

@@ -1,6 +1,6 @@
-use Rattle.std.proofs.Common.{◌-◌, length, refl, sym, ap, ◌∙◌, subst, arith, length-append}
+use Rattle.std.proofs.Common.{◌-◌, length, slice_index, refl, sym, ap, ◌∙◌, subst, arith, length-append}
 use Rattle.site_laws.specs.Sealings.{entries_of, names_told, MayAppend}
-use Rattle.turn_table.specs.Calls.{known, turn_history}
+use Rattle.turn_table.specs.Calls.{fault_word, known, turn_history}
 use Rattle.site_cells.specs.Values.{log_of_cell}
 use Rattle.running_site.proofs.KnownLemmas.{names_of}
 use Rattle.running_site.proofs.SealLemmas.{is-sealed, log-there, sealed-visit}
@@ -53,3 +53,9 @@ returns-clause-sealed c =
     c.seal.ensures.cell c.seal.ensures.appended c.seal.ensures.sealed c.len-from.result
     (c.len.result - c.len-from.result) c.args.own.now.items c.push_reserved.new.self.items from
     (omega (arith, from, upto, long, both)) c.push_reserved.ensures.items
+
+pub returns-clause-noted : goal.returns-clause-noted
+returns-clause-noted c =
+    ap (λ words. slice_index words c.seal.new.turn.cell) c.seal.ensures.faults.1
+    ∙ (ap (fault_word c.args.pass.now) c.seal.ensures.cell ∙ c.requires.noted)
+    ∙ sym c.seal.ensures.faults.0

@@ -1,4 +1,4 @@
-use Rattle.std.proofs.Common.{ℕ, ◌≡◌, ◌≢◌, List, [], ◌∷◌, ◌++◌, length, map, sym, ap, ◌∙◌, subst, arith, Some}
+use Rattle.std.proofs.Common.{ℕ, ◌≡◌, ◌≢◌, List, [], ◌∷◌, ◌++◌, length, map, refl, sym, ap, ◌∙◌, subst, arith, Some}
 use Rattle.std.specs.Prelude.{All, AllPairs, Contains}
 use Rattle.std.proofs.lemmas.List.Elements.{All-pop}
 use Rattle.turn_table.specs.Calls.{known, table_of}
@@ -26,6 +26,7 @@ start-requires c =
           (none_there (λ (t : List Amount × ℕ). t.0)
           (λ (e : Amount). ¬ Contains c.push-4.new.self e.0) x y c.empty.ensures
           c.empty-2.ensures);
+      sound = λ k d low. (tt, refl);
     }
 
 pub returns : goal.returns

@@ -1,16 +1,16 @@
-use Rattle.std.proofs.Common.{◌≡◌, ◌≢◌, ◌+◌, map, length, sym, ap, ◌∙◌, subst, arith}
+use Rattle.std.proofs.Common.{◌≡◌, ◌≢◌, ◌+◌, false, map, length, sym, ap, ◌∙◌, subst, arith}
 use Rattle.std.specs.Prelude.{AllPairs, Contains}
 use Rattle.topic_book.specs.Cells.{cells_in}
 use Rattle.exchange_rules.specs.Cells.{author_of}
 use Rattle.turn_table.specs.Calls.{table_of}
-use Rattle.site_cells.specs.Values.{about_in, log_of_cell}
+use Rattle.site_cells.specs.Values.{about_in, is_closed, log_of_cell, IsSettled}
 use Rattle.running_site.specs.Passes.{layout_in, new_writer, IsPassOf, TablePass}
 use Rattle.running_site.specs.declared.pass.PassOf.{PassOf}
 use Rattle.running_site.proofs.CloseLemmas.{all-of}
 use Rattle.running_site.proofs.KnownLemmas.{each_of}
 use Rattle.running_site.proofs.NumberLemmas.{numbers-differ}
 use Rattle.running_site.proofs.SignedLemmas.{all-listed}
-use Rattle.running_site.proofs.StartLemmas.{fresh-new, fresh-now, fresh-own, start-lawful, start-long, start-new}
+use Rattle.running_site.proofs.StartLemmas.{all-idle, fresh-new, fresh-now, fresh-own, start-lawful, start-long, start-new}
 use Rattle.running_site.proofs.opening.SiteOf+SiteCell.start.Goals as goal
 
 pub start-requires-clause-few : goal.start-requires-clause-few
@@ -29,6 +29,10 @@ pub start-requires-clause-new : goal.start-requires-clause-new
 start-requires-clause-new c =
     start-new (λ entry. ¬ Contains c.in_ok-numbers.numbers (author_of entry))
     (cells_in c.args.names + 1) c.in_ok-cells.cells c.in_ok-cells.ensures.empty
+
+pub start-requires-clause-sound : goal.start-requires-clause-sound
+start-requires-clause-sound c =
+    all-of (λ cell. IsSettled cell × (is_closed cell ≡ false)) c.in_ok-cells.cells (all-idle c.in_ok-cells.cells)
 
 pub invariant_of-site : goal.invariant_of-site
 invariant_of-site c = record {

@@ -2,6 +2,7 @@ use Rattle.std.proofs.Common.{sym, ◌∙◌, subst}
 use Rattle.turn_table.specs.Calls.{known}
 use Rattle.running_site.specs.Visits.{HasTurn, IsVisit}
 use Rattle.running_site.proofs.AppendLemmas.{append-cause, append-fits}
+use Rattle.running_site.proofs.LookLemmas.{noted-as}
 use Rattle.running_site.proofs.visit.Visit.append.Goals as goal
 
 pub seal_in-result-requires-clause-visit : goal.seal_in-result-requires-clause-visit
@@ -14,6 +15,10 @@ pub seal_in-result-requires-clause-cell : goal.seal_in-result-requires-clause-ce
 seal_in-result-requires-clause-cell g c =
     subst (λ o. HasTurn o c.args.cell) (sym c.take.ensures.value ∙ c.in-Some.is) c.requires.holds
 
+pub seal_in-result-requires-clause-noted : goal.seal_in-result-requires-clause-noted
+seal_in-result-requires-clause-noted g c =
+    let v = c.args.self.now in v.noted c.in-Some.turn (sym c.take.ensures.value ∙ c.in-Some.is)
+
 pub invariant_of-self : goal.invariant_of-self
 invariant_of-self g c =
     let v = c.args.self.now in
@@ -23,6 +28,8 @@ invariant_of-self g c =
       opened = v.opened;
       visit = subst (IsVisit v.site.now.names v.site.now.limit (known c.seal_in-result.new.pass))
           (sym c.hold.ensures) c.seal_in-result.ensures.visit;
+      noted = noted-as c.seal_in-result.new.pass c.hold.new.slot c.seal_in-result.new.turn
+          c.hold.ensures c.seal_in-result.ensures.noted;
     }
 
 pub returns-clause-holds : goal.returns-clause-holds

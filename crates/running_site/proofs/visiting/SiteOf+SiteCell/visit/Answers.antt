@@ -1,4 +1,5 @@
 use Rattle.std.proofs.Common.{sym, ap, ◌∙◌}
+use Rattle.std.proofs.lemmas.Option.{none-some}
 use Rattle.running_site.specs.Passes.{sight_where, writer_where}
 use Rattle.running_site.proofs.VisitLemmas.{came-visit}
 use Rattle.running_site.proofs.visiting.SiteOf+SiteCell.visit.Goals as goal
@@ -14,6 +15,7 @@ invariant_of-result g c =
       numbered = here.1;
       opened = c.requires.opened;
       visit = here.2;
+      noted = λ t e. absurd (none-some t e);
     }
 
 pub returns-clause-writer : goal.returns-clause-writer

@@ -1,9 +1,12 @@
-use Rattle.std.proofs.Common.{sym, refl, ap, ◌∙◌, subst}
+use Rattle.std.proofs.Common.{◌≡◌, ◌⊎◌, false, true, inl, sym, refl, ap, ◌∙◌, subst}
 use Rattle.exchange_rules.specs.declared.log_entry.LogEntry.{LogEntry}
 use Rattle.site_laws.specs.declared.cell_about.CellAbout.{CellAbout}
 use Rattle.turn_table.specs.Calls.{known}
 use Rattle.turn_table.specs.declared.knowledge.Known.{Known}
 use Rattle.running_site.specs.Visits.{IsVisit}
+use Rattle.std.proofs.lemmas.Option.{none-some}
+use Rattle.site_cells.specs.Values.{is_closed, IsSettled}
+use Rattle.running_site.proofs.SealLemmas.{all-sound, if-also}
 use Rattle.running_site.proofs.LeaveLemmas.{gave-later, gave-visit}
 use Rattle.running_site.proofs.writing.VisitTurns.leave.Goals as goal
 
@@ -21,6 +24,16 @@ give-requires-clause-about g c =
     (sym c.take.ensures.value ∙ c.in-Some.is) v.visit in
     (visit.holding c.in-Some.turn refl).suits
 
+pub give-requires-clause-settled : goal.give-requires-clause-settled
+give-requires-clause-settled g c =
+    if-also (λ cell. IsSettled cell × (is_closed cell ≡ false))
+    (λ cell. IsSettled cell ⊎ (is_closed cell ≡ true)) c.in-Some.turn.value (λ y e h. inl h.0)
+    (all-sound c.in-Some.turn.value)
+
+pub give-requires-clause-noted : goal.give-requires-clause-noted
+give-requires-clause-noted g c =
+    let v = c.args.self.now in v.noted c.in-Some.turn (sym c.take.ensures.value ∙ c.in-Some.is)
+
 pub invariant_of-self : goal.invariant_of-self
 invariant_of-self g c =
     let v = c.args.self.now in
@@ -35,6 +48,7 @@ invariant_of-self g c =
           (sym c.take.ensures.after)
           (gave-visit v.site.now.names v.site.now.limit (known v.pass) (known c.give.new.pass)
           c.in-Some.turn c.give.ensures.gave visit c.give.ensures.free);
+      noted = λ t e. absurd (none-some t (sym c.take.ensures.after ∙ e));
     }
 
 pub returns-in-Some-clause-later : goal.returns-in-Some-clause-later

@@ -1,4 +1,4 @@
-use Rattle.std.proofs.Common.{◌≡◌, ◌+◌, ◌<◌, [], ◌∷◌, ◌++◌, length, sym, ap, ◌∙◌, subst, arith}
+use Rattle.std.proofs.Common.{◌≡◌, ◌+◌, ◌<◌, slice_index, [], ◌∷◌, ◌++◌, length, sym, ap, ◌∙◌, subst, arith}
 use Rattle.topic_book.specs.Cells.{cells_in}
 use Rattle.exchange_rules.specs.Following.{Writer}
 use Rattle.exchange_rules.specs.Primitives.{LooksAt}
@@ -6,12 +6,13 @@ use Rattle.exchange_rules.specs.declared.log_entry.LogEntry.{LogEntry}
 use Rattle.site_laws.specs.Looks.{IsLater}
 use Rattle.site_laws.specs.declared.cell_about.CellAbout.{CellAbout}
 use Rattle.site_laws.proofs.LaterLemmas.{later-on}
-use Rattle.turn_table.specs.Calls.{known}
+use Rattle.turn_table.specs.Calls.{fault_word, known, turn_faults}
 use Rattle.turn_table.specs.declared.knowledge.Known.{Known}
+use Rattle.site_cells.specs.Values.{faults_of}
 use Rattle.running_site.specs.Passes.{sight_in, writer_in}
 use Rattle.running_site.specs.Visits.{IsVisit}
 use Rattle.running_site.proofs.KnownLemmas.{wide-at}
-use Rattle.running_site.proofs.LookLemmas.{looked-later, looked-visit, looked-writer}
+use Rattle.running_site.proofs.LookLemmas.{looked-later, looked-visit, looked-writer, never-shut, noted-as}
 use Rattle.running_site.proofs.SealLemmas.{log-there}
 use Rattle.running_site.proofs.writing.VisitTurns.look.Goals as goal
 
@@ -19,31 +20,49 @@ pub invariant_of-self-2 : goal.invariant_of-self-2
 invariant_of-self-2 g c =
     let v = c.leave.new.self in
     let k = known v.pass in
-    let t = c.turn-turn.result in
-    let took = c.turn-turn.ensures.took in
+    let t = c.in-Some.turn in
+    let took = c.in-Some.ensures.took in
     let idle = subst (IsVisit v.site.now.names v.site.now.limit k) c.leave.ensures.free v.visit in
     let within = subst (λ (w : Writer). c.args.cell < length w.seen) (sym c.leave.ensures.writer)
     c.requires in
     record {
-      seated = c.look.ensures.own ∙ (c.turn-turn.ensures.own ∙ v.seated);
+      seated = c.look.ensures.own ∙ (c.turn.ensures.own ∙ v.seated);
       numbered = ap (λ (x : Known CellAbout LogEntry). x.numbers) c.look.ensures.looked
           ∙ (ap (λ (x : Known CellAbout LogEntry). x.numbers) took.2 ∙ v.numbered);
       opened = v.opened;
       visit = subst (IsVisit v.site.now.names v.site.now.limit (known c.look.new.pass))
           (sym c.hold.ensures)
-          (looked-visit k (known c.turn-turn.new.pass) (known c.look.new.pass) c.args.cell took.0 t
-          c.turn-turn.ensures.cell took.2 c.look.ensures.looked v.site.now.names v.site.now.limit
+          (looked-visit k (known c.turn.new.pass) (known c.look.new.pass) c.args.cell took.0 t
+          c.in-Some.ensures.cell took.2 c.look.ensures.looked v.site.now.names v.site.now.limit
           idle c.look.ensures.glimpse within c.look.ensures.others c.look.ensures.holds
           c.look.ensures.seen
-          c.turn-turn.ensures.about);
+          c.in-Some.ensures.about);
+      noted = noted-as c.look.new.pass c.hold.new.slot t c.hold.ensures
+          (ap (λ words. slice_index words t.cell) c.look.ensures.faults
+          ∙ subst (λ cell. fault_word c.turn.new.pass cell ≡ turn_faults faults_of t)
+          (sym c.in-Some.ensures.cell) c.in-Some.ensures.faults.0);
     }
+
+pub unreachable-requires : goal.unreachable-requires
+unreachable-requires g c =
+    let v = c.leave.new.self in
+    let k = known v.pass in
+    let absent = rw c.in_default.is at c.turn.ensures.absent in
+    let within = subst (λ (w : Writer). c.args.cell < length w.seen) (sym c.leave.ensures.writer)
+    c.requires in
+    let wide = wide-at k v.pass.seat.table_id v.site.now.table.board.shared.table_id
+    v.site.now.table.cells (cells_in v.site.now.names + 1) v.pass.wide v.seated
+    v.site.now.table.slots v.site.now.sized in
+    let seen = wide.seen in
+    never-shut v.site.now.names v.site.now.limit k v.visit.knowing c.args.cell
+    (omega (arith, seen, within)) absent.3
 
 pub returns-clause-ok : goal.returns-clause-ok
 returns-clause-ok g c =
     let v = c.leave.new.self in
     let k = known v.pass in
-    let t = c.turn-turn.result in
-    let took = c.turn-turn.ensures.took in
+    let t = c.in-Some.turn in
+    let took = c.in-Some.ensures.took in
     let same = c.leave.ensures.writer in
     let within = subst (λ (w : Writer). c.args.cell < length w.seen) (sym same) c.requires in
     let wide = wide-at k v.pass.seat.table_id v.site.now.table.board.shared.table_id
@@ -58,8 +77,8 @@ returns-clause-ok g c =
     c.in_ok-reserve.ensures.items in
     subst (λ (w : Writer). LooksAt w
     (writer_in (known c.look.new.pass) c.push_reserved.new.self.items v.own.items) c.args.cell) same
-    (looked-writer k (known c.turn-turn.new.pass) (known c.look.new.pass) c.args.cell took.0 t
-    c.turn-turn.ensures.cell took.2 c.look.ensures.looked c.len-upto.result v.marks.items
+    (looked-writer k (known c.turn.new.pass) (known c.look.new.pass) c.args.cell took.0 t
+    c.in-Some.ensures.cell took.2 c.look.ensures.looked c.len-upto.result v.marks.items
     c.push_reserved.new.self.items v.own.items (omega (arith, seen, looks, within))
     c.look.ensures.others
     (c.len-upto.ensures ∙ ap length (log-there t c.state.result.now c.state.ensures)) pushed)
@@ -69,8 +88,8 @@ returns-clause-later g c =
     let old = c.args.self.now in
     let v = c.leave.new.self in
     let k = known v.pass in
-    let t = c.turn-turn.result in
-    let took = c.turn-turn.ensures.took in
+    let t = c.in-Some.turn in
+    let took = c.in-Some.ensures.took in
     let left = c.leave.ensures.later in
     let idle = subst (IsVisit v.site.now.names v.site.now.limit k) c.leave.ensures.free v.visit in
     let within = subst (λ (w : Writer). c.args.cell < length w.seen) (sym c.leave.ensures.writer)
@@ -85,8 +104,8 @@ returns-clause-later g c =
           (sight_in (known c.look.new.pass)) left.1
           (subst (λ ns. IsLater ns (sight_in k) (sight_in (known c.look.new.pass)))
           (ap (λ s. s.names) left.0)
-          (looked-later k (known c.turn-turn.new.pass) (known c.look.new.pass) c.args.cell took.0 t
-          c.turn-turn.ensures.cell took.2 c.look.ensures.looked v.site.now.names v.site.now.limit
+          (looked-later k (known c.turn.new.pass) (known c.look.new.pass) c.args.cell took.0 t
+          c.in-Some.ensures.cell took.2 c.look.ensures.looked v.site.now.names v.site.now.limit
           idle c.look.ensures.glimpse (omega (arith, seen, looks, within)) within
           c.look.ensures.others)),
     )

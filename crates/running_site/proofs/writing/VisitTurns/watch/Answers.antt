@@ -1,4 +1,4 @@
-use Rattle.std.proofs.Common.{◌+◌, sym, ap, ◌∙◌, subst}
+use Rattle.std.proofs.Common.{◌+◌, slice_index, sym, ap, ◌∙◌, subst}
 use Rattle.exchange_rules.specs.declared.log_entry.LogEntry.{LogEntry}
 use Rattle.site_laws.specs.declared.cell_about.CellAbout.{CellAbout}
 use Rattle.topic_book.specs.Cells.{cells_in}
@@ -19,6 +19,7 @@ invariant_of-self g c =
       opened = v.opened;
       visit = subst (λ k. IsVisit v.site.now.names v.site.now.limit k v.turn)
           (sym c.watch.ensures.known) v.visit;
+      noted = λ t e. ap (λ words. slice_index words t.cell) c.watch.ensures.faults ∙ v.noted t e;
     }
 
 pub returns-clause-alone : goal.returns-clause-alone
