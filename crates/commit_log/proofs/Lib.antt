@@ -3,3 +3,4 @@ pub mod StepLemmas
 pub mod FileLemmas
 pub mod StopLemmas
 pub mod LogLemmas
+pub mod SpellingLemmas

@@ -5,4 +5,5 @@ pub mod Places
 pub mod Disks
 pub mod Stops
 pub mod Logs
+pub mod Spelling
 pub mod Laws

@@ -1,7 +1,7 @@
 -- The steps of a log, and their bodies (own).
 use Rattle.std.specs.Prelude.{ℕ, ◌^◌, ◌<◌, List, [], ◌∷◌, length, map}
 use Rattle.log_codec.specs.Steps.{body_of, AreSpellable}
-use Rattle.log_codec.specs.declared.step.LogEntry.{LogEntry}
+use Rattle.exchange_rules.specs.declared.log_entry.LogEntry.{LogEntry}
 
 -- a step: entries that are appended together
 abbrev pub Step : Type 0

@@ -16,7 +16,7 @@ pub enum LogFault {
     /// At this place of the file, in bytes from 0, no step can be read.
     #[error("damaged at {at}")]
     Damaged { at: u64 },
-    /// An allocation was refused, or the file would be too long.
+    /// An allocation was refused.
     #[error("out of memory")]
     OutOfMemory,
 }

@@ -1,20 +1,22 @@
 // A log of steps.
-ghost use Rattle.std.specs.Prelude.{ℕ, ◌≡◌, ◌+◌, ◌^◌, ◌<◌, ◌≤◌, List, ◌++◌, ◌∷◌, [], true, Some, length, IfErr, IfOk, IsErrOf, OnErr, OnOk};
+ghost use Rattle.std.specs.Prelude.{ℕ, ◌≡◌, ◌≤◌, List, ◌++◌, ◌∷◌, [], true, Some, IfErr, IfOk, OnErr, OnOk};
 ghost use Rattle.io_edge.specs.Edge.{Rose};
 ghost use Rattle.disk_edge.specs.Disk.{HasCause, LeavesOnly};
-ghost use Rattle.log_codec.specs.Steps.{HoldsNoGroup};
+ghost use Rattle.log_codec.specs.Steps.{entries_in, HoldsNoGroup};
 ghost use Rattle.commit_log.specs.Steps.{Step};
 ghost use Rattle.commit_log.specs.Files.{Explains, IsFileOf, StandsFor};
 ghost use Rattle.commit_log.specs.Stops.{Halfway, IsBegun, IsUntouched, KeepsSteps};
 
-use crate::LogFault;
 use crate::frames::Found;
 use crate::opening::open;
 use crate::settling::settle;
-use crate::writing::{commit, piece_of};
+use crate::spelling::spelled_of;
+use crate::writing::commit;
+use crate::{LogFault, Spelled};
 use disk_edge::{Disk, DiskFailed};
-use log_codec::{LogStep, LogSteps};
+use log_codec::{LogSteps, StepRef};
 use std::alloc::Global;
+use tuple_values::Memory;
 
 // A file to which a step is appended is shorter, and so is the step's body.
 const LIMIT: u64 = 1 << 62;
@@ -57,6 +59,7 @@ pub struct AttachFault<D> {
 
 impl<D: Disk> Log<D> {
     ghost use Rattle.commit_log.specs.Logs.{disk_in, disk_of, is_shut, settled, IsInFlight, IsSettled};
+    ghost use Rattle.commit_log.specs.Spelling.{HasPlace, IsSpelled};
 
     /// Opens a file as a log; an empty file becomes one of no step. A stop while the first nine
     /// bytes of a new file are written may leave a damaged file.
@@ -97,42 +100,50 @@ impl<D: Disk> Log<D> {
         }
     }
 
-    /// Appends a step, which at `Ok` is on the disk. After `OutOfMemory` the log is as it was.
-    pub fn append(&mut self, alloc: Global, step: &LogStep) -> Result<(), LogFault>
-        requires plain { HoldsNoGroup step.now }
+    /// A step as an append to this log writes it. Takes all the memory that the append takes, and
+    /// answers `OutOfMemory` also where the file or the body would have 2^62 bytes.
+    pub fn spell(&self, alloc: Global, step: StepRef<'_>) -> Result<Spelled, Memory>
+        requires plain { HoldsNoGroup (entries_in step) }
+        ensures spelled { IfOk result (IsSpelled (entries_in step.entry)) }
+        ensures place { IfOk result (HasPlace self.now) }
+    {
+        let spelled = spelled_of(alloc, step)?;
+        let long = spelled.piece.len() as u64;
+        if self.end >= LIMIT || long >= LIMIT + 9 {
+            return Err(Memory::OutOfMemory);
+        }
+        Ok(spelled)
+    }
+
+    /// Appends a step, which at `Ok` is on the disk. Takes no memory.
+    pub fn append(&mut self, step: &Spelled) -> Result<(), DiskFailed>
         requires settled { (steps : List Step) × IsSettled D.seen D.may_leave steps self.old }
-        ensures settled { OnOk result ((steps : List Step)
-            → IsSettled D.seen D.may_leave steps self.old
-            → IsSettled D.seen D.may_leave (steps ++ step.now ∷ []) self.new) }
-        ensures in_flight { IsErrOf result LogFault.DiskFault → (steps : List Step)
-            → IsSettled D.seen D.may_leave steps self.old
-            → IsInFlight D.seen D.may_leave steps step.now self.new }
-        ensures unwritten { IsErrOf result LogFault.OutOfMemory → self.new ≡ self.old }
+        requires place { HasPlace self.old step.now }
+        ensures settled { OnOk result ((steps : List Step) (entries : Step)
+            → IsSpelled entries step.now → IsSettled D.seen D.may_leave steps self.old
+            → IsSettled D.seen D.may_leave (steps ++ entries ∷ []) self.new) }
+        ensures in_flight { OnErr result ((steps : List Step) (entries : Step)
+            → IsSpelled entries step.now → IsSettled D.seen D.may_leave steps self.old
+            → IsInFlight D.seen D.may_leave steps entries self.new) }
         // A stop at any moment of the call leaves the steps from before it, with the new one or
         // without.
-        ensures any_moment { (steps : List Step) (file : List ℕ)
-            → IsSettled D.seen D.may_leave steps self.old
+        ensures any_moment { (steps : List Step) (entries : Step) (file : List ℕ)
+            → IsSpelled entries step.now → IsSettled D.seen D.may_leave steps self.old
             → D.seen (disk_of self.old) ≡ Some file
             → LeavesOnly D.moment D.left_since (disk_of self.old) (disk_of self.new)
-            (Halfway steps step.now) }
-        ensures cause { (D.faults (disk_of self.old) ≤ D.faults (disk_of self.new))
-            × (IsErrOf result LogFault.DiskFault
-            → Rose (D.faults (disk_of self.old)) (D.faults (disk_of self.new))) }
-        ensures readable { IfErr result (λ fault. (at : ℕ) → ¬ (fault ≡ LogFault.Damaged at)) }
+            (Halfway steps entries) }
+        ensures cause { HasCause (D.faults (disk_of self.old)) (D.faults (disk_of self.new))
+            result }
     {
-        let piece = piece_of(alloc, step)?;
-        let size = (piece.len() - 9) as u64;
-        if self.end >= LIMIT || size >= LIMIT {
-            return Err(LogFault::OutOfMemory);
-        }
-        match commit(&mut self.disk, self.end, &piece) {
+        let size = (step.piece.len() - 9) as u64;
+        match commit(&mut self.disk, self.end, step.piece.as_slice()) {
             Ok(()) => {
                 self.end += 9 + size;
                 Ok(())
             }
-            Err(_) => {
+            Err(failed) => {
                 self.flight = Some(size);
-                Err(LogFault::DiskFault)
+                Err(failed)
             }
         }
     }
@@ -176,6 +187,13 @@ impl<D: Disk> Log<D> {
         ensures { result ≡ is_shut self.now }
     {
         self.shut
+    }
+
+    /// How often the disk of the log has failed.
+    pub fn faults(&self) -> u64
+        ensures { result ≡ D.faults (disk_of self.now) }
+    {
+        self.disk.fault_count()
     }
 
     /// The disk of the log.

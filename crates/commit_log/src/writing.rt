@@ -1,37 +1,10 @@
 // The device calls of an append.
-ghost use Rattle.std.specs.Prelude.{ℕ, ◌≡◌, ◌+◌, ◌^◌, ◌<◌, ◌≤◌, List, ◌++◌, ◌∷◌, [], None, length, vec_len, IfOk, OnErr, OnOk};
+ghost use Rattle.std.specs.Prelude.{ℕ, ◌≡◌, ◌+◌, ◌^◌, ◌<◌, ◌≤◌, List, ◌++◌, ◌∷◌, [], None, length, OnErr, OnOk};
 ghost use Rattle.disk_edge.specs.Disk.{HasCause, IfTold};
-ghost use Rattle.log_codec.specs.Steps.{body_of, AreSpellable, HoldsNoGroup};
 ghost use Rattle.commit_log.specs.Frames.{at_rest, end_of, sized, staged};
 ghost use Rattle.commit_log.specs.Disks.{AddsOnly, Has, HasAll, IsClosed, IsGated};
 
 use disk_edge::{Disk, DiskFailed};
-use log_codec::{LogStep, step_bytes};
-use std::alloc::{AllocError, Global};
-use tuple_values::Memory;
-
-// A body behind its length, and the byte that ends the steps.
-fn framed(alloc: Global, body: &[u8]) -> Result<Vec<u8>, AllocError>
-    ensures piece { IfOk result (λ piece. piece.items ≡ sized body.now ++ (0 ∷ [])) }
-    ensures long { IfOk result (λ piece. vec_len piece ≡ 9 + length body.now) }
-{
-    let mut piece = Vec::new(alloc);
-    piece.extend_from_slice(&(body.len() as u64).to_be_bytes())?;
-    piece.extend_from_slice(body)?;
-    piece.push(0)?;
-    Ok(piece)
-}
-
-/// The body of a step behind its length, and the byte that ends the steps.
-pub(crate) fn piece_of(alloc: Global, step: &LogStep) -> Result<Vec<u8>, Memory>
-    requires { HoldsNoGroup step.now }
-    ensures piece { IfOk result (λ piece. piece.items ≡ sized (body_of step.now) ++ (0 ∷ [])) }
-    ensures long { IfOk result (λ piece. vec_len piece ≡ 9 + length (body_of step.now)) }
-    ensures fits { OnOk result (AreSpellable step.now) }
-{
-    let body = step_bytes(alloc, step)?;
-    Ok(framed(alloc, body.as_slice())?)
-}
 
 // Puts a body behind the byte that ends the steps, and a byte that ends it.
 fn stage<D: Disk>(disk: &mut D, end: u64, piece: &[u8]) -> Result<(), DiskFailed>

@@ -7,7 +7,7 @@ ghost use Rattle.disk_edge.specs.Disk.{written, Elapses, Follows, HasCause, IfTo
 pub struct DiskFailed;
 
 /// A file of bytes.
-pub trait Disk: Drop + Send {
+pub trait Disk: Drop {
     /// What a read gives, where the disk tells it. A disk that doesn't tell never does.
     ghost seen: { Self → Option (List ℕ) };
 
@@ -22,6 +22,10 @@ pub trait Disk: Drop + Send {
 
     /// How often the outside has failed, as a count of 64 bits that stays at its end.
     ghost faults: { Self → ℕ };
+
+    /// The count of faults.
+    fn fault_count(&self) -> u64
+        ensures { result ≡ faults self.now };
 
     /// How long the file is.
     fn size(&mut self) -> Result<u64, DiskFailed>

@@ -99,6 +99,10 @@ impl Disk for FileDisk {
 
     ghost only_now = { λ d c left. left };
 
+    fn fault_count(&self) -> u64 {
+        self.faults
+    }
+
     fn size(&mut self) -> Result<u64, DiskFailed>
         ensures cause { HasCause self.old.faults self.new.faults result }
         ensures after { FileAnswers self.old self.new result }

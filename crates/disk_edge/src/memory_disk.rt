@@ -256,6 +256,10 @@ impl Disk for MemoryDisk {
 
     ghost only_now = { λ d c left. only-now d.first d.since c left };
 
+    fn fault_count(&self) -> u64 {
+        self.faults
+    }
+
     fn size(&mut self) -> Result<u64, DiskFailed>
         ensures size { IfOk result (λ n. n ≡ length (content_of self.old)) }
         ensures seen { Some (content_of self.new) ≡ Some (content_of self.old) }

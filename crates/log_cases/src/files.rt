@@ -5,9 +5,10 @@ ghost use Rattle.commit_log.specs.Steps.{Step};
 
 use crate::steps::step_with;
 use crate::texts::id_of_entry;
-use commit_log::{Attached, Log, LogFault, LogStep};
+use commit_log::{Attached, Log, LogFault, LogStep, StepRef};
 use disk_edge::{Disk, Disks};
 use log_codec::holds_no_group;
+use shard_versions::Step;
 use std::alloc::Global;
 use std::io::Write;
 use tuple_values::{Memory, Text};
@@ -31,12 +32,14 @@ fn attach<D: Disks>(
 }
 
 // Appends a step, which is then on the disk.
-fn append<D: Disk>(alloc: Global, log: &mut Log<D>, step: &LogStep) -> Result<(), LogFault>
+fn append<D: Disk>(alloc: Global, log: &mut Log<D>, step: &Step) -> Result<(), LogFault>
     requires { (steps : List Step) × IsSettled D.seen D.may_leave steps log.old }
     ensures { OnOk result ((steps : List Step) × IsSettled D.seen D.may_leave steps log.new) }
 {
+    let step = StepRef::Shard(step);
     if holds_no_group(step) {
-        return log.append(alloc, step);
+        let spelled = log.spell(alloc, step)?;
+        log.append(&spelled)?;
     }
     Ok(())
 }

@@ -5,9 +5,10 @@ ghost use Rattle.commit_log.specs.Steps.{Step};
 
 use crate::steps::step_of;
 use crate::texts::{push_bytes, push_fault, push_steps};
-use commit_log::{AttachFault, Attached, Log, LogFault, LogStep};
-use disk_edge::{Disk, MemoryDisk};
+use commit_log::{AttachFault, Attached, Log, StepRef};
+use disk_edge::{Disk, DiskFailed, MemoryDisk};
 use log_codec::holds_no_group;
+use shard_versions::Step;
 use std::alloc::Global;
 use tuple_values::{Bytes, Memory, Numbers};
 
@@ -38,29 +39,30 @@ fn append_one<D: Disk>(
     alloc: Global,
     text: &mut String,
     log: &mut Log<D>,
-    step: &LogStep,
+    step: &Step,
     then: Then,
 ) -> Result<bool, Memory>
     requires { (steps : List Step) × IsSettled D.seen D.may_leave steps log.old }
     ensures { IfOk result (λ more. more ≡ true
         → (steps : List Step) × IsSettled D.seen D.may_leave steps log.new) }
 {
+    let step = StepRef::Shard(step);
     if !holds_no_group(step) {
         return Ok(false);
     }
-    match log.append(alloc, step) {
+    let spelled = log.spell(alloc, step)?;
+    match log.append(&spelled) {
         Ok(()) => {
             text.push_str(" done")?;
             Ok(true)
         }
-        Err(LogFault::DiskFault) => {
+        Err(DiskFailed) => {
             text.push_str(" fault")?;
             if matches!(then, Then::Reopen) {
                 text.push_str(reopen(log))?;
             }
             Ok(false)
         }
-        Err(_) => Err(Memory::OutOfMemory),
     }
 }
 

@@ -1,6 +1,5 @@
 // The steps of cases: puts of documents of an id, and perhaps of a text.
-use commit_log::{LogEntry, LogStep};
-use shard_versions::Entry;
+use shard_versions::{Entry, Step};
 use std::alloc::Global;
 use tuple_values::{Memory, Text, Tuple, Value};
 
@@ -18,14 +17,14 @@ fn document(alloc: Global, id: &str) -> Result<Tuple, Memory> {
     Ok(document)
 }
 
-fn add_put(alloc: Global, step: &mut LogStep, id: &str) -> Result<(), Memory> {
+fn add_put(alloc: Global, step: &mut Step, id: &str) -> Result<(), Memory> {
     let document = document(alloc, id)?;
-    step.push(LogEntry::Shard(Entry::put(WRITER, document)))
+    step.push(Entry::put(WRITER, document))
 }
 
 /// A step that puts a document for each id; ids stand with a comma between them.
-pub fn step_of(alloc: Global, ids: &str) -> Result<LogStep, Memory> {
-    let mut step = LogStep::new(alloc);
+pub fn step_of(alloc: Global, ids: &str) -> Result<Step, Memory> {
+    let mut step = Step::new(alloc);
     for id in ids.split(',') {
         add_put(alloc, &mut step, id)?;
     }
@@ -33,10 +32,10 @@ pub fn step_of(alloc: Global, ids: &str) -> Result<LogStep, Memory> {
 }
 
 /// A step that puts one document with this text beside its id.
-pub fn step_with(alloc: Global, id: &str, text: &str) -> Result<LogStep, Memory> {
+pub fn step_with(alloc: Global, id: &str, text: &str) -> Result<Step, Memory> {
     let mut document = document(alloc, id)?;
     put_text(alloc, &mut document, "text_s", text)?;
-    let mut step = LogStep::new(alloc);
-    step.push(LogEntry::Shard(Entry::put(WRITER, document)))?;
+    let mut step = Step::new(alloc);
+    step.push(Entry::put(WRITER, document))?;
     Ok(step)
 }

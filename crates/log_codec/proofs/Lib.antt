@@ -5,6 +5,7 @@ pub mod EntryLemmas
 pub mod FieldLemmas
 pub mod GroupLemmas
 pub mod HeadLemmas
+pub mod LentLemmas
 pub mod PairLemmas
 pub mod ReadLemmas
 pub mod RiseLemmas

@@ -10,8 +10,8 @@ use Rattle.log_codec.specs.Codes.{HasNone, IsAtFront, IsReadInOneWay}
 use Rattle.log_codec.specs.Entries.{kind_byte}
 use Rattle.log_codec.specs.BookEntries.{book_byte}
 use Rattle.log_codec.specs.Steps.{body_of, spelled_log, AreSpellable, IsSpellable}
-use Rattle.log_codec.specs.declared.step.LogEntry.{LogEntry}
-use Rattle.log_codec.specs.declared.step.LogEntry.TheVariants.{Shard, Book}
+use Rattle.exchange_rules.specs.declared.log_entry.LogEntry.{LogEntry}
+use Rattle.exchange_rules.specs.declared.log_entry.LogEntry.TheVariants.{Shard, Book}
 use Rattle.log_codec.proofs.BookLemmas.{book-one}
 use Rattle.log_codec.proofs.CodeLemmas.{list-one}
 use Rattle.log_codec.proofs.EntryLemmas.{entry-one}

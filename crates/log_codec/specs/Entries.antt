@@ -15,6 +15,10 @@ holds_group (Del id) = false
 holds_group (Sent src version document) = has_group document
 holds_group Mark = false
 
+-- the entry's document holds no group
+abbrev pub HasNoGroup : Entry → Type 0
+HasNoGroup entry = holds_group entry.kind ≡ false
+
 -- the byte that tells what an entry does
 abbrev pub kind_byte : Kind → ℕ
 kind_byte (Put document) = 1

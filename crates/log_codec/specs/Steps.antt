@@ -1,12 +1,19 @@
 -- How a step of a log is spelled (own).
-use Rattle.std.specs.Prelude.{Bool, false, ◌≡◌, List}
+use Rattle.std.specs.Prelude.{Bool, false, ◌≡◌, List, [], ◌∷◌, map}
 use Rattle.std.specs.List.{AllByRecursion}
 use Rattle.tuple_values.specs.Document.{ByteList}
 use Rattle.log_codec.specs.Codes.{spelled_list, AreCounted}
 use Rattle.log_codec.specs.Entries.{holds_group, spelled_entry, IsSpellableEntry}
 use Rattle.log_codec.specs.BookEntries.{spelled_book, IsSpellableBook}
-use Rattle.log_codec.specs.declared.step.LogEntry.{LogEntry}
-use Rattle.log_codec.specs.declared.step.LogEntry.TheVariants.{Shard, Book}
+use Rattle.exchange_rules.specs.declared.log_entry.LogEntry.{LogEntry}
+use Rattle.exchange_rules.specs.declared.log_entry.LogEntry.TheVariants.{Shard, Book}
+use Rattle.log_codec.specs.declared.step.StepRef.{StepRef}
+use Rattle.log_codec.specs.declared.step.StepRef.TheVariants as lent
+
+-- the list that a lent step stands for: the entries of a shard, or the one entry of the book
+abbrev pub entries_in : StepRef → List LogEntry
+entries_in (lent.Shard step) = map Shard step.now
+entries_in (lent.Book entry) = Book entry.now ∷ []
 
 -- whether the entry's document holds a group
 abbrev pub has_group_in : LogEntry → Bool

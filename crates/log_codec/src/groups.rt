@@ -1,12 +1,13 @@
 // Tests of what has no spelling: documents that hold a group.
 ghost use Rattle.std.specs.Prelude.{◌≡◌, ◌<◌, Decides};
+ghost use Rattle.std.specs.List.{AllByRecursion};
 ghost use Rattle.tuple_values.specs.Views.{datum_of};
 ghost use Rattle.shard_versions.specs.Documents.{has_group, is_group};
-ghost use Rattle.log_codec.specs.Entries.{holds_group};
-ghost use Rattle.log_codec.specs.Steps.{has_group_in, HoldsNoGroup};
+ghost use Rattle.log_codec.specs.Entries.{holds_group, HasNoGroup};
+ghost use Rattle.log_codec.specs.Steps.{entries_in, HoldsNoGroup};
 
-use crate::{LogEntry, LogStep};
-use shard_versions::{Entry, Kind};
+use crate::StepRef;
+use shard_versions::{Entry, Kind, Step};
 use tuple_values::{Tuple, Value};
 
 fn is_group(value: &Value) -> bool
@@ -43,24 +44,26 @@ pub fn holds_group(e: &Entry) -> bool
     }
 }
 
-fn has_group_in(e: &LogEntry) -> bool
-    ensures { result ≡ has_group_in e.now }
-{
-    match e {
-        LogEntry::Shard(entry) => holds_group(entry),
-        LogEntry::Book(_) => false,
-    }
-}
-
-/// Whether no document of the step holds a group.
+// Whether no document of the entries holds a group.
 #[tactic(auto, using(crate::proofs::GroupLemmas::group_steps))]
-pub fn holds_no_group(step: &LogStep) -> bool
-    ensures { Decides result (HoldsNoGroup step.now) }
+fn none_holds_group(step: &Step) -> bool
+    ensures { Decides result (AllByRecursion HasNoGroup step.now) }
 {
     for entry in step.as_slice() {
-        if has_group_in(entry) {
+        if holds_group(entry) {
             return false;
         }
     }
     true
+}
+
+/// Whether no document of the step holds a group.
+#[tactic(auto, using(crate::proofs::LentLemmas::lent_steps))]
+pub fn holds_no_group(step: StepRef<'_>) -> bool
+    ensures { Decides result (HoldsNoGroup (entries_in step.entry)) }
+{
+    match step {
+        StepRef::Shard(entries) => none_holds_group(entries),
+        StepRef::Book(_) => true,
+    }
 }

@@ -4,7 +4,7 @@ ghost use Rattle.log_codec.specs.Codes.{IsReadInOneWay};
 ghost use Rattle.log_codec.specs.Entries.{spelled_entry, IsSpellableEntry};
 ghost use Rattle.log_codec.specs.BookEntries.{spelled_book, IsSpellableBook};
 ghost use Rattle.log_codec.specs.Steps.{body_of, AreSpellable};
-ghost use Rattle.log_codec.specs.declared.step.LogEntry.{LogEntry};
+ghost use Rattle.exchange_rules.specs.declared.log_entry.LogEntry.{LogEntry};
 
 /// Two entries that stand at one front are one, and leave the same rest.
 pub fn one_entry()

@@ -19,5 +19,5 @@ pub use entries::{EntryRead, entry_bytes, read_entry};
 pub use format::Format;
 pub use groups::{holds_group, holds_no_group};
 pub use laws::{one_book, one_entry, one_step};
-pub use step::{LogEntry, LogStep, LogSteps};
+pub use step::{LogStep, LogSteps, StepRef};
 pub use steps::{read_step, step_bytes};

@@ -1,46 +1,64 @@
 // The bodies of steps.
-ghost use Rattle.std.specs.Prelude.{ℕ, ◌≡◌, ◌≢◌, ◌++◌, false, List, IfNone, IfOk, IfSome, OnOk};
-ghost use Rattle.std.specs.List.{flat_map};
-ghost use Rattle.log_codec.specs.Codes.{AreSoMany, HasNone, IsAtFront};
-ghost use Rattle.log_codec.specs.Steps.{body_of, has_group_in, spelled_log, AreSpellable, HoldsNoGroup, IsSpellable};
-ghost use Rattle.log_codec.specs.declared.step.LogEntry.{LogEntry};
+ghost use Rattle.std.specs.Prelude.{◌≡◌, ◌≢◌, ◌++◌, List, IfNone, IfOk, IfSome, OnOk};
+ghost use Rattle.std.specs.List.{flat_map, AllByRecursion};
+ghost use Rattle.log_codec.specs.Codes.{spelled_list, spelled_number, AreCounted, AreSoMany, HasNone, IsAtFront};
+ghost use Rattle.log_codec.specs.Entries.{spelled_entry, HasNoGroup, IsSpellableEntry};
+ghost use Rattle.log_codec.specs.BookEntries.{spelled_book, IsSpellableBook};
+ghost use Rattle.log_codec.specs.Steps.{body_of, entries_in, spelled_log, AreSpellable, HoldsNoGroup, IsSpellable};
+ghost use Rattle.exchange_rules.specs.declared.log_entry.LogEntry.{LogEntry};
 
 use crate::book_entries::{take_book, write_book};
 use crate::entries::{take_entry, write_entry};
 use crate::texts::{read_number, write_number};
-use crate::{Format, LogEntry, LogStep};
+use crate::{Format, LogStep, StepRef};
+use exchange_rules::LogEntry;
+use shard_versions::Step;
 use std::alloc::Global;
+use topic_book::BookEntry;
 use tuple_values::{Bytes, Memory};
 
-fn write_log(out: &mut Vec<u8>, e: &LogEntry) -> Result<(), Memory>
-    requires { has_group_in e.now ≡ false }
-    ensures ok { OnOk result (out.new.items ≡ out.old.items ++ spelled_log e.now) }
-    ensures fits { OnOk result (IsSpellable e.now) }
-{
-    match e {
-        LogEntry::Shard(entry) => write_entry(out, entry),
-        LogEntry::Book(entry) => write_book(out, entry),
-    }
-}
-
 // Writes the entries, behind their number, behind what is there.
-fn write_step(out: &mut Vec<u8>, step: &LogStep) -> Result<(), Memory>
-    requires { HoldsNoGroup step.now }
-    ensures ok { OnOk result (out.new.items ≡ out.old.items ++ body_of step.now) }
-    ensures fits { OnOk result (AreSpellable step.now) }
+fn write_entries(out: &mut Vec<u8>, step: &Step) -> Result<(), Memory>
+    requires { AllByRecursion HasNoGroup step.now }
+    ensures ok { OnOk result (out.new.items
+        ≡ out.old.items ++ spelled_list spelled_entry step.now) }
+    ensures fits { OnOk result (AreCounted IsSpellableEntry step.now) }
 {
     write_number(out, step.len() as u64)?;
     for entry in step.as_slice() {
-        write_log(out, entry)?;
+        write_entry(out, entry)?;
     }
     Ok(())
 }
 
+// Writes the entry, as a list of one, behind what is there.
+fn write_single(out: &mut Vec<u8>, e: &BookEntry) -> Result<(), Memory>
+    ensures ok { OnOk result (out.new.items
+        ≡ out.old.items ++ (spelled_number 1 ++ spelled_book e.now)) }
+    ensures fits { OnOk result (IsSpellableBook e.now) }
+{
+    write_number(out, 1)?;
+    write_book(out, e)
+}
+
+// Writes the step's body behind what is there.
+#[tactic(auto, using(crate::proofs::LentLemmas::lent_steps))]
+fn write_step(out: &mut Vec<u8>, step: StepRef<'_>) -> Result<(), Memory>
+    requires { HoldsNoGroup (entries_in step) }
+    ensures ok { OnOk result (out.new.items ≡ out.old.items ++ body_of (entries_in step.entry)) }
+    ensures fits { OnOk result (AreSpellable (entries_in step.entry)) }
+{
+    match step {
+        StepRef::Shard(entries) => write_entries(out, entries),
+        StepRef::Book(entry) => write_single(out, entry),
+    }
+}
+
 /// The body of a step, of which no document holds a group.
-pub fn step_bytes(alloc: Global, step: &LogStep) -> Result<Bytes, Memory>
-    requires { HoldsNoGroup step.now }
-    ensures ok { IfOk result (λ bytes. bytes ≡ body_of step.now) }
-    ensures spellable { OnOk result (AreSpellable step.now) }
+pub fn step_bytes(alloc: Global, step: StepRef<'_>) -> Result<Bytes, Memory>
+    requires { HoldsNoGroup (entries_in step) }
+    ensures ok { IfOk result (λ bytes. bytes ≡ body_of (entries_in step.entry)) }
+    ensures spellable { OnOk result (AreSpellable (entries_in step.entry)) }
 {
     let mut out = Vec::new(alloc);
     write_step(&mut out, step)?;

@@ -7,7 +7,7 @@ use Rattle.commit_log.proofs.StopLemmas.{leaves-only}
 use Rattle.commit_log.proofs.log.Log.reopen.Goals as goal
 
 pub settle-requires-clause-within : goal.settle-requires-clause-within
-settle-requires-clause-within g c = λ _ _. in-flight-long g.D.Disk.seen g.D.Disk.may_leave c.requires.0 c.requires.1 c.args.self.now c.requires.2
+settle-requires-clause-within g c = in-flight-long g.D.Disk.seen g.D.Disk.may_leave c.requires.0 c.requires.1 c.args.self.now c.requires.2
 
 pub returns-in-Ok-true-clause-settled : goal.returns-in-Ok-true-clause-settled
 returns-in-Ok-true-clause-settled g c = λ steps step f.
@@ -20,7 +20,7 @@ pub returns-in-Ok-true-clause-any_moment : goal.returns-in-Ok-true-clause-any_mo
 returns-in-Ok-true-clause-any_moment g c = λ steps step file f is.
     let old = c.args.self.now in
     let all = in-flight-all g.D.Disk.seen g.D.Disk.may_leave steps step old file f is in
-    let law = (g.met.D.Disk g.world.𝓛 g.world.𝓜 g.world.𝓡 ((λ _ x. x), (λ x. x), (λ x. x), λ x. x)).only_now old.disk in
+    let law = g.met.D.Disk.only_now old.disk in
     leaves-only g.D.Disk.moment g.D.Disk.left_since old.disk c.settle.new.disk (Halfway steps step) (c.settle.ensures.any_moment (bodies_of steps) (body_of step) f.place all) (λ d left. all.leaves d (law d left))
 
 pub returns-in-Ok-false-clause-settled : goal.returns-in-Ok-false-clause-settled
@@ -33,12 +33,12 @@ pub returns-in-Ok-false-clause-any_moment : goal.returns-in-Ok-false-clause-any_
 returns-in-Ok-false-clause-any_moment g c = λ steps step file f is.
     let old = c.args.self.now in
     let all = in-flight-all g.D.Disk.seen g.D.Disk.may_leave steps step old file f is in
-    let law = (g.met.D.Disk g.world.𝓛 g.world.𝓜 g.world.𝓡 ((λ _ x. x), (λ x. x), (λ x. x), λ x. x)).only_now old.disk in
+    let law = g.met.D.Disk.only_now old.disk in
     leaves-only g.D.Disk.moment g.D.Disk.left_since old.disk c.settle.new.disk (Halfway steps step) (c.settle.ensures.any_moment (bodies_of steps) (body_of step) f.place all) (λ d left. all.leaves d (law d left))
 
 pub returns-in-Err-clause-any_moment : goal.returns-in-Err-clause-any_moment
 returns-in-Err-clause-any_moment g c = λ steps step file f is.
     let old = c.args.self.now in
     let all = in-flight-all g.D.Disk.seen g.D.Disk.may_leave steps step old file f is in
-    let law = (g.met.D.Disk g.world.𝓛 g.world.𝓜 g.world.𝓡 ((λ _ x. x), (λ x. x), (λ x. x), λ x. x)).only_now old.disk in
+    let law = g.met.D.Disk.only_now old.disk in
     leaves-only g.D.Disk.moment g.D.Disk.left_since old.disk c.settle.new.disk (Halfway steps step) (c.settle.ensures.any_moment (bodies_of steps) (body_of step) f.place all) (λ d left. all.leaves d (law d left))
