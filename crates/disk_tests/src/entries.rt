@@ -38,6 +38,13 @@ pub fn versions(alloc: Global, all: &[u64]) -> Result<Versions, Memory> {
     Ok(list)
 }
 
+// By writer 2 no versions of that topic.
+pub fn store(alloc: Global) -> Result<BookEntry, Memory> {
+    let upto = versions(alloc, &[])?;
+    let key = topic_key(alloc)?;
+    Ok(BookEntry::Store { by: 2, key, upto })
+}
+
 fn push_names(alloc: Global, list: &mut FieldList) -> Result<(), Memory> {
     list.push(Text::of(alloc, "id")?)?;
     list.push(Text::of(alloc, "n")?)

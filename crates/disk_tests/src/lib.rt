@@ -21,6 +21,8 @@ mod of_files;
 #[cfg(test)]
 mod of_folders;
 #[cfg(test)]
+mod of_logged_cells;
+#[cfg(test)]
 mod of_memory_disk;
 #[cfg(test)]
 mod of_refusals;

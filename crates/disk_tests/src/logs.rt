@@ -1,10 +1,11 @@
 // Files worked by hand from the format, and the steps and disks of the tests.
-ghost use Rattle.std.specs.Prelude.{IfOk};
+ghost use Rattle.std.specs.Prelude.{IfOk, map};
+ghost use Rattle.exchange_rules.specs.declared.log_entry.LogEntry.TheVariants.{Shard};
 ghost use Rattle.log_codec.specs.Steps.{HoldsNoGroup};
 
-use commit_log::{LogEntry, LogStep, LogSteps};
+use commit_log::{LogEntry, LogSteps};
 use disk_edge::MemoryDisk;
-use shard_versions::Entry;
+use shard_versions::{Entry, Step};
 use std::alloc::Global;
 use tuple_values::{Bytes, Memory, Numbers};
 
@@ -27,6 +28,11 @@ pub const TWO: [u8; 61] = [
     1, 0, 0, 0, 0, 0, 0, 0, 17, 0, 0, 0, 0, 0, 0, 0, 1, 4, 0, 0, 0, 0, 0, 0, 0, 6, //
     0,
 ];
+
+/// A file of one step of the book: a body of 44 bytes, which is a Store of no versions by the
+/// writer 2.
+pub const BOOK: [u8; 62] = *b"SSLOG001\x01\0\0\0\0\0\0\0\x2c\0\0\0\0\0\0\0\x01\
+\x06\0\0\0\0\0\0\0\x02\0\0\0\0\0\0\0\x02ck\0\0\0\0\0\0\0\x01t\0\0\0\0\0\0\0\0\0";
 
 /// The file of one step, and bytes of a second one of which no byte says that it stands.
 pub const TORN: [u8; 45] = [
@@ -51,11 +57,11 @@ pub const LONGER: [u8; 36] = [
 ];
 
 /// A step of a Mark of this writer.
-pub fn mark(alloc: Global, by: u64) -> Result<LogStep, Memory>
-    ensures { IfOk result HoldsNoGroup }
+pub fn mark(alloc: Global, by: u64) -> Result<Step, Memory>
+    ensures { IfOk result (λ step. HoldsNoGroup (map Shard step)) }
 {
-    let mut step = LogStep::new(alloc);
-    step.push(LogEntry::Shard(Entry::mark(by)))?;
+    let mut step = Step::new(alloc);
+    step.push(Entry::mark(by))?;
     Ok(step)
 }
 

@@ -1,30 +1,46 @@
 // Tests of appending steps.
-use crate::logs::{NEW, ONE, TORN, TWO, disk, mark};
-use commit_log::{Log, LogFault};
-use disk_edge::MemoryDisk;
+ghost use Rattle.log_codec.specs.Steps.{entries_in, HoldsNoGroup};
+
+use crate::entries::store;
+use crate::logs::{BOOK, NEW, ONE, TORN, TWO, disk, mark};
+use commit_log::{Log, StepRef};
+use disk_edge::{DiskFailed, MemoryDisk};
 use std::alloc::Global;
 use std::test::Fail;
 
-// Appends a Mark of this writer to the file; the answer, and the bytes after it.
+// Appends a step to the file; the answer, and the bytes after it.
 fn appended(
     alloc: Global,
     bytes: &[u8],
-    by: u64,
+    step: StepRef,
     failing: &[u64],
-) -> Result<(Result<(), LogFault>, MemoryDisk), Fail> {
-    let step = mark(alloc, by)?;
+) -> Result<(Result<(), DiskFailed>, MemoryDisk), Fail>
+    requires { HoldsNoGroup (entries_in step) }
+{
     match Log::attach(alloc, disk(alloc, bytes, failing)?) {
         Ok(attached) => {
             let mut log = attached.log;
-            let answer = log.append(alloc, &step);
+            let spelled = log.spell(alloc, step)?;
+            let answer = log.append(&spelled);
             Ok((answer, log.into_disk()))
         }
         Err(refused) => Err(refused.fault)?,
     }
 }
 
+// The same of a Mark of this writer.
+fn appended_mark(
+    alloc: Global,
+    bytes: &[u8],
+    by: u64,
+    failing: &[u64],
+) -> Result<(Result<(), DiskFailed>, MemoryDisk), Fail> {
+    let step = mark(alloc, by)?;
+    appended(alloc, bytes, StepRef::Shard(&step), failing)
+}
+
 fn becomes(alloc: Global, bytes: &[u8], by: u64, want: &[u8]) -> Result<bool, Fail> {
-    let (answer, disk) = appended(alloc, bytes, by, &[])?;
+    let (answer, disk) = appended_mark(alloc, bytes, by, &[])?;
     Ok(answer == Ok(()) && disk.bytes() == want)
 }
 
@@ -38,14 +54,24 @@ fn a_step_follows_those_before(rt: HostRuntime) -> Result<(), Fail> {
     Ok(())
 }
 
+#[test]
+fn an_entry_of_the_book_is_a_step(rt: HostRuntime) -> Result<(), Fail> {
+    let alloc = rt.alloc();
+    let entry = store(alloc)?;
+    let (answer, disk) = appended(alloc, &NEW, StepRef::Book(&entry), &[])?;
+    assert_eq!(rt; answer, Ok(()));
+    assert!(rt; disk.bytes() == BOOK.as_slice());
+    Ok(())
+}
+
 // An opening makes five calls, and an append four: write, sync, write and sync.
 #[test]
 fn each_call_of_an_append_fails_in_turn(rt: HostRuntime) -> Result<(), Fail> {
     let alloc = rt.alloc();
     for failing in 5..9 {
-        let answer = appended(alloc, &ONE, 6, &[failing])?.0;
-        assert_eq!(rt; answer, Err(LogFault::DiskFault), "call {failing}");
+        let answer = appended_mark(alloc, &ONE, 6, &[failing])?.0;
+        assert_eq!(rt; answer, Err(DiskFailed), "call {failing}");
     }
-    assert_eq!(rt; appended(alloc, &ONE, 6, &[9])?.0, Ok(()));
+    assert_eq!(rt; appended_mark(alloc, &ONE, 6, &[9])?.0, Ok(()));
     Ok(())
 }

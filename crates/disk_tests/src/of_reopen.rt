@@ -1,6 +1,6 @@
 // Tests of opening a file again after an append that failed.
 use crate::logs::{ONE, TWO, disk, mark};
-use commit_log::{Log, LogFault};
+use commit_log::{Log, StepRef};
 use disk_edge::{DiskFailed, MemoryDisk};
 use std::alloc::Global;
 use std::test::Fail;
@@ -15,9 +15,10 @@ fn reopened(
     match Log::attach(alloc, disk(alloc, &ONE, failing)?) {
         Ok(attached) => {
             let mut log = attached.log;
-            let answer = match log.append(alloc, &step) {
-                Err(LogFault::DiskFault) => Some(log.reopen()),
-                _ => None,
+            let spelled = log.spell(alloc, StepRef::Shard(&step))?;
+            let answer = match log.append(&spelled) {
+                Err(DiskFailed) => Some(log.reopen()),
+                Ok(()) => None,
             };
             Ok((answer, log.into_disk()))
         }
