@@ -1,11 +1,11 @@
-// A document that a search keeps.
-ghost use Rattle.std.specs.Prelude.{◌≡◌, ◌<◌, length, slice_index_or};
-ghost use Rattle.source_streams.specs.Keeps.{doc_of};
+// A document that a search keeps, and one that it gives.
+ghost use Rattle.std.specs.Prelude.{◌≡◌, ◌<◌, IfOk, length, slice_index_or};
+ghost use Rattle.source_streams.specs.Keeps.{doc_of, given_doc};
 
 use shard_segments::Document;
 use shard_versions::Snapshot;
 use sort_spec::Lends;
-use tuple_values::Tuple;
+use tuple_values::{Memory, Tuple};
 
 /// A document that a search keeps, which its shard lends.
 #[derive(Clone, Copy)]
@@ -17,6 +17,32 @@ impl Lends for Kept<'_> {
     ghost use Rattle.source_streams.specs.Keeps.{doc_of};
 
     ghost doc = { doc_of };
+
+    fn tuple(&self) -> &Tuple {
+        self.document.tuple()
+    }
+}
+
+/// A document that a search gives, which is shared with its shard.
+#[derive(Drop)]
+pub(crate) struct Given {
+    pub(crate) document: Document,
+}
+
+impl Given {
+    /// The document once more, counted and not copied.
+    pub(crate) fn of(kept: &Kept) -> Result<Given, Memory>
+        ensures { IfOk result (λ given. given_doc given ≡ doc_of kept.now) }
+    {
+        let document = kept.document.share()?;
+        Ok(Given { document })
+    }
+}
+
+impl Lends for Given {
+    ghost use Rattle.source_streams.specs.Keeps.{given_doc};
+
+    ghost doc = { given_doc };
 
     fn tuple(&self) -> &Tuple {
         self.document.tuple()

@@ -5,18 +5,17 @@ ghost use Rattle.expr_types.specs.Sources.{first_rows, then_by_id, cut_to};
 ghost use Rattle.sort_spec.specs.Sorting.{ins_sort};
 ghost use Rattle.sort_spec.specs.Terms.{less};
 ghost use Rattle.source_streams.specs.Cuts.{documents_of};
-ghost use Rattle.source_streams.specs.Keeps.{doc_of};
+ghost use Rattle.source_streams.specs.Keeps.{doc_of, given_doc};
 ghost use Rattle.source_streams.specs.Parts.{part_of, keys_of};
 ghost use Rattle.source_streams.specs.Reads.{IsNext, searched};
 ghost use Rattle.source_streams.specs.Wants.{is_wanted, early_part, late_part};
 
 use crate::Part;
-use crate::kept::Kept;
+use crate::kept::{Given, Kept};
 use crate::part::keys_or_none;
 use crate::scanned::add_matching;
 use crate::wanted::Wanted;
 use expr_types::Expr;
-use shard_segments::Document;
 use shard_versions::{Cut, CutPart};
 use sort_spec::{Lends, SortSpec, SortTerm, sort_first, sort_lenders};
 use std::alloc::Global;
@@ -28,7 +27,7 @@ use tuple_values::{FieldList, Memory, Text, TryCopy, Tuple};
 /// The tuples of a search that are still to come: their documents, which are shared with their shards,
 /// and the fields to which each is cut when it is read. A contract sees the list of the tuples.
 pub struct SearchCursor {
-    documents: VecDeque<Document>,
+    documents: VecDeque<Given>,
     fl: FieldList,
 }
 
@@ -45,12 +44,13 @@ impl Model for SearchCursor {
     ghost use Rattle.tuple_values.specs.Document.{Doc};
     ghost use Rattle.tuple_values.specs.Codes.{docs_code};
     ghost use Rattle.expr_types.specs.Sources.{cut_to};
+    ghost use Rattle.source_streams.specs.Keeps.{given_doc};
 
     ghost Value = { List Doc };
 
     ghost coded = { docs_code };
 
-    ghost view = { λ s. map (cut_to s.fl) s.documents.items };
+    ghost view = { λ s. map (cut_to s.fl) (map given_doc s.documents.items) };
 }
 
 impl SearchCursor {
@@ -90,14 +90,8 @@ impl SearchCursor {
         };
         let found = matching(rt, alloc, &wanted, collection, cut.as_slice())?;
         let by = by_id(alloc, sort)?;
-        let first = first_of(found, &by, *rows)?;
-        let documents = shared_part(
-            alloc,
-            first.as_slice(),
-            fl,
-            wanted.keys,
-            late_part(part, *rows),
-        )?;
+        let given = given_of(alloc, found, &by, *rows, &wanted, part)?;
+        let documents = VecDeque::from(given);
         let fl = fl.copy(alloc)?;
         Ok(SearchCursor { documents, fl })
     }
@@ -150,18 +144,6 @@ fn early_part(part: Part, rows: Option<u64>) -> Part
     }
 }
 
-// The part that is taken of the first rows: all, where no rows are counted.
-fn late_part(part: Part, rows: Option<u64>) -> Part
-    requires { part.index < part.of }
-    ensures part { result ≡ late_part rows part }
-    ensures in_range { result.index < result.of }
-{
-    match rows {
-        None => Part::whole(),
-        Some(_) => part,
-    }
-}
-
 // A sort, and then by id.
 fn by_id(alloc: Global, sort: &SortSpec) -> Result<SortSpec, Memory>
     ensures { IfOk result (λ by. by ≡ then_by_id sort.now) }
@@ -174,38 +156,68 @@ fn by_id(alloc: Global, sort: &SortSpec) -> Result<SortSpec, Memory>
     Ok(by)
 }
 
-// The first so many in order, or all.
-fn first_of<'a>(
-    found: Vec<Kept<'a>>,
+// The documents in order; of the first so many, where rows are counted, those whose cuts to the fields are of
+// the part.
+fn given_of(
+    alloc: Global,
+    found: Vec<Kept>,
     by: &SortSpec,
     rows: Option<u64>,
-) -> Result<Vec<Kept<'a>>, Memory>
-    ensures { IfOk result (λ first. map doc_of first.items
-        ≡ first_rows rows (ins_sort (less by.now) (map doc_of found.entry.items))) }
+    wanted: &Wanted,
+    part: Part,
+) -> Result<Vec<Given>, Memory>
+    requires { part.index < part.of }
+    ensures { IfOk result (λ given. map (cut_to wanted.now.fl.now) (map given_doc given.items)
+        ≡ part_of (late_part rows part).index (late_part rows part).of wanted.now.keys.now
+        (map (cut_to wanted.now.fl.now)
+        (first_rows rows (ins_sort (less by.now) (map doc_of found.entry.items))))) }
 {
-    match rows {
-        None => sort_lenders(found, by),
-        Some(most) => sort_first(found, by, most as usize),
-    }
+    let Some(most) = rows else {
+        let given = all_of(alloc, found, by)?;
+        return Ok(given);
+    };
+    let first = sort_first(found, by, most as usize)?;
+    shared_part(alloc, first.as_slice(), wanted, part)
 }
 
-// The documents whose cuts to the fields are of the part, once more. None is copied.
+// All documents in order, once more.
+fn all_of(alloc: Global, found: Vec<Kept>, by: &SortSpec) -> Result<Vec<Given>, Memory>
+    ensures { IfOk result (λ given. map given_doc given.items
+        ≡ ins_sort (less by.now) (map doc_of found.entry.items)) }
+{
+    let given = shared(alloc, found.as_slice())?;
+    drop(found);
+    sort_lenders(given, by)
+}
+
+// The documents once more. None is copied.
+fn shared(alloc: Global, found: &[Kept]) -> Result<Vec<Given>, Memory>
+    ensures { IfOk result (λ given. map given_doc given.items ≡ map doc_of found.now) }
+{
+    let mut given = Vec::with_capacity(alloc, found.len())?;
+    for kept in found {
+        given.push(Given::of(kept)?)?;
+    }
+    Ok(given)
+}
+
+// Those whose cuts to the fields are of the part.
 fn shared_part(
     alloc: Global,
     found: &[Kept],
-    fl: &FieldList,
-    keys: &FieldList,
+    wanted: &Wanted,
     part: Part,
-) -> Result<VecDeque<Document>, Memory>
+) -> Result<Vec<Given>, Memory>
     requires { part.index < part.of }
-    ensures { IfOk result (λ documents. map (cut_to fl.now) documents.items
-        ≡ part_of part.index part.of keys.now (map (cut_to fl.now) (map doc_of found.now))) }
+    ensures { IfOk result (λ given. map (cut_to wanted.now.fl.now) (map given_doc given.items)
+        ≡ part_of part.index part.of wanted.now.keys.now
+        (map (cut_to wanted.now.fl.now) (map doc_of found.now))) }
 {
-    let mut documents = VecDeque::with_capacity(alloc, found.len())?;
+    let mut given = Vec::with_capacity(alloc, found.len())?;
     for kept in found {
-        if part.holds(keys, fl, kept.tuple()) {
-            documents.push_back(kept.document.share()?)?;
+        if part.holds(wanted.keys, wanted.fl, kept.tuple()) {
+            given.push(Given::of(kept)?)?;
         }
     }
-    Ok(documents)
+    Ok(given)
 }

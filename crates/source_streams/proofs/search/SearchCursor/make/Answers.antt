@@ -1,3 +1,4 @@
+use Rattle.std.proofs.Common.{◌∙◌}
 use Rattle.expr_types.specs.Sources.{search_list, then_by_id}
 use Rattle.source_streams.proofs.EarlyLemmas.{early_found}
 use Rattle.source_streams.proofs.SearchLemmas.{searched-parts}
@@ -9,15 +10,11 @@ pub returns : goal.returns
 unfolding search_list
 returns g c =
     let s = c.in-Search in
-    rw (
-      c.in_ok-fl.ensures,
-      c.in_ok-documents.ensures,
+    rw (c.in_ok-fl.ensures, c.from-documents.ensures.0) (c.in_ok-given.ensures
+    ∙ rw (
       s.is,
       searched-parts s.collection s.q s.fl s.sort s.rows s.partition_keys c.args.cut.now
           c.args.part,
-      c.late_part.ensures.part,
-      c.as_slice-2.ensures.value,
-      c.in_ok-first.ensures,
       c.in_ok-found.ensures,
       c.in_ok-by.ensures,
       c.as_slice.ensures,
@@ -25,4 +22,4 @@ returns g c =
       c.keys_or_none.ensures,
       c.as_ref.ensures.value,
     ) (early_found s.q.clauses s.fl (keys_of s.partition_keys) (then_by_id s.sort) c.args.part
-    (documents_of s.collection c.args.cut.now) s.rows)
+    (documents_of s.collection c.args.cut.now) s.rows))
