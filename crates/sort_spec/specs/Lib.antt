@@ -7,6 +7,7 @@ pub mod Reading
 pub mod Rows
 pub mod Runs
 pub mod Scan
+pub mod Sorted
 pub mod Sorting
 pub mod Terms
 pub mod Texts

@@ -15,6 +15,7 @@ mod reader;
 mod rows;
 mod runs;
 mod scan;
+mod sorted;
 mod sorting;
 mod term;
 
@@ -25,5 +26,6 @@ pub use lends::Lends;
 pub use names::{NameSet, once};
 pub use pair::{OnPair, OnSpec};
 pub use reader::{read_names, read_on, read_sort, readings_agree};
+pub use sorted::Sorted;
 pub use sorting::{sort_lenders, sort_tuples};
 pub use term::{SortSpec, SortTerm};

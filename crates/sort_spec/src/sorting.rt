@@ -16,11 +16,11 @@ use tuple_values::{Memory, Tuples};
 // Runs of what lends tuples.
 type Runs<T> = Vec<Run<T, VecDeque<T>>>;
 
-// Groups of such runs.
-type Groups<T> = Vec<Run<T, Runs<T>>>;
+/// Groups of such runs.
+pub(crate) type Groups<T> = Vec<Run<T, Runs<T>>>;
 
-// Up to so many are sorted at once.
-const WHOLE: usize = 65_536;
+/// Up to so many are sorted at once.
+pub(crate) const WHOLE: usize = 65_536;
 
 // So many runs, or as many groups of them, are merged at most: the first of each is looked at for each item.
 const MERGED: usize = 16;
@@ -41,7 +41,7 @@ pub fn sort_lenders<T: Lends + Drop>(items: Vec<T>, by: &SortSpec) -> Result<Vec
         return sort_run(terms, items);
     }
     let alloc = *items.allocator();
-    let groups = groups_of(alloc, terms, items, run_len(count))?;
+    let groups = groups_of(terms, items)?;
     merge(alloc, terms, groups, count)
 }
 
@@ -53,14 +53,11 @@ fn run_len(count: usize) -> usize
     if part < 8_192 { 8_192 } else { part }
 }
 
-// The items in groups of runs of so many, of which the first may have fewer.
-fn groups_of<T: Lends + Drop>(
-    alloc: Global,
+/// The items in groups of runs. What goes into a group leaves no room behind it among the items.
+pub(crate) fn groups_of<T: Lends + Drop>(
     terms: &[SortTerm],
     mut items: Vec<T>,
-    most: usize,
 ) -> Result<Groups<T>, Memory>
-    requires { 0 < most }
     ensures docs { IfOk result (λ groups.
         merged_of T.doc (λ runs. merged_of T.doc (λ others. map T.doc others.items) terms.now runs.items)
         terms.now groups.items ≡ ins_sort (less terms.now) (map T.doc items.items)) }
@@ -69,6 +66,8 @@ fn groups_of<T: Lends + Drop>(
         (λ runs. AreRuns T.doc (λ others. map T.doc others.items) (λ others. Unit {0}) terms.now runs.items)
         terms.now groups.items) }
 {
+    let alloc = *items.allocator();
+    let most = run_len(items.len());
     let size = most.saturating_mul(MERGED);
     let mut groups = Vec::new(alloc);
     'cuts: while !items.is_empty() {
@@ -107,8 +106,8 @@ fn runs_of<T: Lends + Drop>(
     Ok(runs)
 }
 
-// Sorts by a row of each item.
-fn sort_run<T: Lends + Drop>(terms: &[SortTerm], items: Vec<T>) -> Result<Vec<T>, Memory>
+/// Sorts by a row of each item.
+pub(crate) fn sort_run<T: Lends + Drop>(terms: &[SortTerm], items: Vec<T>) -> Result<Vec<T>, Memory>
     ensures { IfOk result (λ sorted. map T.doc sorted.items
         ≡ ins_sort (less terms.now) (map T.doc items.items)) }
 {
