@@ -7,6 +7,13 @@ use shard_versions::Snapshot;
 use sort_spec::Lends;
 use tuple_values::{Memory, Tuple};
 
+/// What a search keeps of a document that it finds.
+pub(crate) trait Keeps<'a>: Lends + Drop {
+    /// What is kept of the document, which is not copied.
+    fn of(document: &'a Document) -> Result<Self, Memory>
+        ensures { IfOk result (λ kept. Self.doc kept ≡ document.now) };
+}
+
 /// A document that a search keeps, which its shard lends.
 #[derive(Clone, Copy)]
 pub(crate) struct Kept<'a> {
@@ -23,20 +30,16 @@ impl Lends for Kept<'_> {
     }
 }
 
+impl<'a> Keeps<'a> for Kept<'a> {
+    fn of(document: &'a Document) -> Result<Self, Memory> {
+        Ok(Kept { document })
+    }
+}
+
 /// A document that a search gives, which is shared with its shard.
 #[derive(Drop)]
 pub(crate) struct Given {
     pub(crate) document: Document,
-}
-
-impl Given {
-    /// The document once more, counted and not copied.
-    pub(crate) fn of(kept: &Kept) -> Result<Given, Memory>
-        ensures { IfOk result (λ given. given_doc given ≡ doc_of kept.now) }
-    {
-        let document = kept.document.share()?;
-        Ok(Given { document })
-    }
 }
 
 impl Lends for Given {
@@ -49,13 +52,20 @@ impl Lends for Given {
     }
 }
 
+impl<'a> Keeps<'a> for Given {
+    fn of(document: &'a Document) -> Result<Self, Memory> {
+        let document = document.share()?;
+        Ok(Given { document })
+    }
+}
+
 /// The k-th current document of a snapshot.
-pub(crate) fn kept_at<'a>(snapshot: &'a Snapshot, k: u64) -> Kept<'a>
+pub(crate) fn document_at<'a>(snapshot: &'a Snapshot, k: u64) -> &'a Document
     requires { k < length snapshot.now.documents }
-    ensures { (d : _) → doc_of result ≡ (slice_index_or snapshot.now.documents k d).1 }
+    ensures { (d : _) → result.now ≡ (slice_index_or snapshot.now.documents k d).1 }
 {
     match &snapshot.chunks().get(snapshot.place(k)).document {
-        Some(document) => Kept { document },
+        Some(document) => document,
         None => unreachable!(),
     }
 }

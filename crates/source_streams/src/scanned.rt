@@ -1,14 +1,12 @@
 // The documents of a shard that a search keeps.
 ghost use Rattle.std.specs.Prelude.{◌≡◌, ◌<◌, ◌≤◌, ◌++◌, OnOk, length, map, filter, slice_index};
 ghost use Rattle.shard_segments.specs.Scans.{places_where};
-ghost use Rattle.source_streams.specs.Keeps.{doc_of};
 ghost use Rattle.source_streams.specs.Wants.{is_wanted, is_wanted_slot, IsFirstFrom};
 
-use crate::kept::{Kept, kept_at};
+use crate::kept::{Keeps, document_at};
 use crate::wanted::Wanted;
 use shard_segments::scan;
 use shard_versions::Snapshot;
-use sort_spec::Lends;
 use std::alloc::Global;
 use std::marker::Sync;
 use std::thread::Threads;
@@ -16,15 +14,15 @@ use tuple_values::Memory;
 
 /// Adds the documents of a snapshot that are wanted, in their order. Where most slots are current
 /// ones all are scanned, else the documents are looked at one by one.
-pub(crate) fn add_matching<'a, R: Threads + Sync>(
+pub(crate) fn add_matching<'a, K: Keeps<'a>, R: Threads + Sync>(
     rt: &R,
     alloc: Global,
-    found: &mut Vec<Kept<'a>>,
+    found: &mut Vec<K>,
     wanted: &Wanted,
     snapshot: &'a Snapshot,
 ) -> Result<(), Memory>
     ensures { OnOk result
-        (map doc_of found.new.items ≡ map doc_of found.old.items
+        (map K.doc found.new.items ≡ map K.doc found.old.items
         ++ filter (is_wanted wanted.now.q.now.clauses wanted.now.fl.now wanted.now.keys.now
         wanted.now.part) (map (λ d. d.1) snapshot.now.documents)) }
 {
@@ -36,28 +34,28 @@ pub(crate) fn add_matching<'a, R: Threads + Sync>(
 }
 
 // The same, document by document.
-fn add_each<'a>(
-    found: &mut Vec<Kept<'a>>,
+fn add_each<'a, K: Keeps<'a>>(
+    found: &mut Vec<K>,
     wanted: &Wanted,
     snapshot: &'a Snapshot,
 ) -> Result<(), Memory>
     ensures { OnOk result
-        (map doc_of found.new.items ≡ map doc_of found.old.items
+        (map K.doc found.new.items ≡ map K.doc found.old.items
         ++ filter (is_wanted wanted.now.q.now.clauses wanted.now.fl.now wanted.now.keys.now
         wanted.now.part) (map (λ d. d.1) snapshot.now.documents)) }
 {
     for k in 0..snapshot.count() {
-        let kept = kept_at(snapshot, k);
-        if wanted.takes(kept.tuple()) {
-            found.push(kept)?;
+        let document = document_at(snapshot, k);
+        if wanted.takes(document.tuple()) {
+            found.push(K::of(document)?)?;
         }
     }
     Ok(())
 }
 
 // The same by the places of the slots that are wanted, which replaced ones are among.
-fn add_scanned<'a>(
-    found: &mut Vec<Kept<'a>>,
+fn add_scanned<'a, K: Keeps<'a>>(
+    found: &mut Vec<K>,
     wanted: &Wanted,
     snapshot: &'a Snapshot,
     places: &[u64],
@@ -65,7 +63,7 @@ fn add_scanned<'a>(
     requires { places.now ≡ places_where (is_wanted_slot wanted.now.q.now.clauses
         wanted.now.fl.now wanted.now.keys.now wanted.now.part) 0 snapshot.now.slots }
     ensures { OnOk result
-        (map doc_of found.new.items ≡ map doc_of found.old.items
+        (map K.doc found.new.items ≡ map K.doc found.old.items
         ++ filter (is_wanted wanted.now.q.now.clauses wanted.now.fl.now wanted.now.keys.now
         wanted.now.part) (map (λ d. d.1) snapshot.now.documents)) }
 {
@@ -74,7 +72,7 @@ fn add_scanned<'a>(
         let place = snapshot.place(k);
         at = first_from(places, at, place);
         if at < places.len() && places[at] == place {
-            found.push(kept_at(snapshot, k))?;
+            found.push(K::of(document_at(snapshot, k))?)?;
         }
     }
     Ok(())

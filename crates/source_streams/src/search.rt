@@ -11,15 +11,14 @@ ghost use Rattle.source_streams.specs.Reads.{IsNext, searched};
 ghost use Rattle.source_streams.specs.Wants.{is_wanted, early_part, late_part};
 
 use crate::Part;
-use crate::kept::{Given, Kept};
+use crate::kept::{Given, Keeps, Kept};
 use crate::part::keys_or_none;
 use crate::scanned::add_matching;
 use crate::wanted::Wanted;
 use expr_types::Expr;
 use shard_versions::{Cut, CutPart};
-use sort_spec::{Lends, SortSpec, SortTerm, sort_first, sort_lenders};
+use sort_spec::{Lends, SortSpec, SortTerm, Sorted, sort_first};
 use std::alloc::Global;
-use std::collections::VecDeque;
 use std::marker::{Model, Sync};
 use std::thread::Threads;
 use tuple_values::{FieldList, Memory, Text, TryCopy, Tuple};
@@ -27,20 +26,28 @@ use tuple_values::{FieldList, Memory, Text, TryCopy, Tuple};
 /// The tuples of a search that are still to come: their documents, which are shared with their shards,
 /// and the fields to which each is cut when it is read. A contract sees the list of the tuples.
 pub struct SearchCursor {
-    documents: VecDeque<Given>,
+    first: Option<Given>,
+    others: Sorted<Given>,
     fl: FieldList,
+    alloc: Global,
 }
 
 impl Drop for SearchCursor {
     fn drop(self) {
-        let SearchCursor { documents, fl } = self;
-        drop(documents);
+        let SearchCursor {
+            first,
+            others,
+            fl,
+            alloc: _,
+        } = self;
+        drop(first);
+        drop(others);
         drop(fl);
     }
 }
 
 impl Model for SearchCursor {
-    ghost use Rattle.std.specs.Prelude.{List, map};
+    ghost use Rattle.std.specs.Prelude.{◌≡◌, ◌++◌, List, [], IfNone, map, option_to_list};
     ghost use Rattle.tuple_values.specs.Document.{Doc};
     ghost use Rattle.tuple_values.specs.Codes.{docs_code};
     ghost use Rattle.expr_types.specs.Sources.{cut_to};
@@ -50,7 +57,9 @@ impl Model for SearchCursor {
 
     ghost coded = { docs_code };
 
-    ghost view = { λ s. map (cut_to s.fl) (map given_doc s.documents.items) };
+    ghost view = { λ s. map (cut_to s.fl) (map given_doc (option_to_list s.first) ++ s.others) };
+
+    ghost invariant = { λ s. IfNone s.first (s.others ≡ []) };
 }
 
 impl SearchCursor {
@@ -88,12 +97,32 @@ impl SearchCursor {
             keys: keys_or_none(partition_keys.as_ref(), &none),
             part: early_part(part, *rows),
         };
-        let found = matching(rt, alloc, &wanted, collection, cut.as_slice())?;
         let by = by_id(alloc, sort)?;
-        let given = given_of(alloc, found, &by, *rows, &wanted, part)?;
-        let documents = VecDeque::from(given);
         let fl = fl.copy(alloc)?;
-        Ok(SearchCursor { documents, fl })
+        let others = given_of(
+            rt,
+            alloc,
+            &wanted,
+            collection,
+            cut.as_slice(),
+            by,
+            *rows,
+            part,
+        )?;
+        Ok(SearchCursor::over(alloc, others, fl))
+    }
+
+    // The cursor of documents in order, each cut to the fields.
+    fn over(alloc: Global, mut others: Sorted<Given>, fl: FieldList) -> SearchCursor
+        ensures { result ≡ map (cut_to fl) others }
+    {
+        let first = others.next();
+        SearchCursor {
+            first,
+            others,
+            fl,
+            alloc,
+        }
     }
 
     /// The next tuple, which is copied; none exactly at the end, and from then on. An `Err` leaves all as
@@ -102,24 +131,24 @@ impl SearchCursor {
         ensures next { IfOk result (λ next. IsNext self.old next self.new) }
         ensures err { OnErr result (self.new ≡ self.old) }
     {
-        let Some(document) = self.documents.front() else {
+        let Some(document) = &self.first else {
             return Ok(None);
         };
-        let alloc = *self.documents.allocator();
-        let tuple = document.tuple().cut(alloc, &self.fl)?;
-        let _ = self.documents.pop_front();
+        let tuple = document.tuple().cut(self.alloc, &self.fl)?;
+        self.first = self.others.next();
         Ok(Some(tuple))
     }
 }
 
-fn matching<'a, R: Threads + Sync>(
+// What is kept of the documents of a collection that are wanted, in their order.
+fn matching<'a, K: Keeps<'a>, R: Threads + Sync>(
     rt: &R,
     alloc: Global,
     wanted: &Wanted,
     collection: &Text,
     cut: &'a [CutPart],
-) -> Result<Vec<Kept<'a>>, Memory>
-    ensures { IfOk result (λ found. map doc_of found.items
+) -> Result<Vec<K>, Memory>
+    ensures { IfOk result (λ found. map K.doc found.items
         ≡ filter (is_wanted wanted.now.q.now.clauses wanted.now.fl.now wanted.now.keys.now
         wanted.now.part) (documents_of collection.now cut.now)) }
 {
@@ -156,49 +185,34 @@ fn by_id(alloc: Global, sort: &SortSpec) -> Result<SortSpec, Memory>
     Ok(by)
 }
 
-// The documents in order; of the first so many, where rows are counted, those whose cuts to the fields are of
-// the part.
-fn given_of(
+// The wanted documents in order; of the first so many, where rows are counted, those whose cuts to the fields
+// are of the part.
+fn given_of<R: Threads + Sync>(
+    rt: &R,
     alloc: Global,
-    found: Vec<Kept>,
-    by: &SortSpec,
-    rows: Option<u64>,
     wanted: &Wanted,
+    collection: &Text,
+    cut: &[CutPart],
+    by: SortSpec,
+    rows: Option<u64>,
     part: Part,
-) -> Result<Vec<Given>, Memory>
+) -> Result<Sorted<Given>, Memory>
     requires { part.index < part.of }
-    ensures { IfOk result (λ given. map (cut_to wanted.now.fl.now) (map given_doc given.items)
+    ensures { IfOk result (λ given. map (cut_to wanted.now.fl.now) given
         ≡ part_of (late_part rows part).index (late_part rows part).of wanted.now.keys.now
-        (map (cut_to wanted.now.fl.now)
-        (first_rows rows (ins_sort (less by.now) (map doc_of found.entry.items))))) }
+        (map (cut_to wanted.now.fl.now) (first_rows rows (ins_sort (less by)
+        (filter (is_wanted wanted.now.q.now.clauses wanted.now.fl.now wanted.now.keys.now
+        wanted.now.part) (documents_of collection.now cut.now)))))) }
 {
     let Some(most) = rows else {
-        let given = all_of(alloc, found, by)?;
+        let found = matching::<Given, R>(rt, alloc, wanted, collection, cut)?;
+        let given = Sorted::of(found, by)?;
         return Ok(given);
     };
-    let first = sort_first(found, by, most as usize)?;
-    shared_part(alloc, first.as_slice(), wanted, part)
-}
-
-// All documents in order, once more.
-fn all_of(alloc: Global, found: Vec<Kept>, by: &SortSpec) -> Result<Vec<Given>, Memory>
-    ensures { IfOk result (λ given. map given_doc given.items
-        ≡ ins_sort (less by.now) (map doc_of found.entry.items)) }
-{
-    let given = shared(alloc, found.as_slice())?;
-    drop(found);
-    sort_lenders(given, by)
-}
-
-// The documents once more. None is copied.
-fn shared(alloc: Global, found: &[Kept]) -> Result<Vec<Given>, Memory>
-    ensures { IfOk result (λ given. map given_doc given.items ≡ map doc_of found.now) }
-{
-    let mut given = Vec::with_capacity(alloc, found.len())?;
-    for kept in found {
-        given.push(Given::of(kept)?)?;
-    }
-    Ok(given)
+    let found = matching::<Kept, R>(rt, alloc, wanted, collection, cut)?;
+    let first = sort_first(found, &by, most as usize)?;
+    let given = shared_part(alloc, first.as_slice(), wanted, part)?;
+    Ok(Sorted::in_order(given))
 }
 
 // Those whose cuts to the fields are of the part.
@@ -216,7 +230,7 @@ fn shared_part(
     let mut given = Vec::with_capacity(alloc, found.len())?;
     for kept in found {
         if part.holds(wanted.keys, wanted.fl, kept.tuple()) {
-            given.push(Given::of(kept)?)?;
+            given.push(Given::of(kept.document)?)?;
         }
     }
     Ok(given)

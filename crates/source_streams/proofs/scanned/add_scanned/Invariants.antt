@@ -1,15 +1,14 @@
 use Rattle.std.proofs.Common.{◌≡◌, ◌≤◌, ◌++◌, length, map, filter, drop}
-use Rattle.source_streams.specs.Keeps.{doc_of}
 use Rattle.source_streams.specs.Wants.{is_wanted}
 use Rattle.source_streams.proofs.scanned.add_scanned.Given as goal
 
 -- those found, and those to be found among the documents to come, are all
 abbrev pub invariant-loop-k : goal.invariant-loop-k
-invariant-loop-k l =
+invariant-loop-k g l =
     (l.at ≤ length l.places)
-    × (map doc_of l.found.items
+    × (map g.K.Lends.doc l.found.items
     ++ filter (is_wanted l.wanted.q.now.clauses l.wanted.fl.now l.wanted.keys.now l.wanted.part)
     (map (λ d. d.1) (drop l.k l.snapshot.documents))
-    ≡ map doc_of l.fn.found.items
+    ≡ map g.K.Lends.doc l.fn.found.items
     ++ filter (is_wanted l.wanted.q.now.clauses l.wanted.fl.now l.wanted.keys.now l.wanted.part)
     (map (λ d. d.1) l.snapshot.documents))

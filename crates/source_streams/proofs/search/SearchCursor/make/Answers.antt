@@ -10,12 +10,11 @@ pub returns : goal.returns
 unfolding search_list
 returns g c =
     let s = c.in-Search in
-    rw (c.in_ok-fl.ensures, c.from-documents.ensures.0) (c.in_ok-given.ensures
+    rw (c.over.ensures, c.in_ok-fl.ensures) (c.in_ok-others.ensures
     ∙ rw (
       s.is,
       searched-parts s.collection s.q s.fl s.sort s.rows s.partition_keys c.args.cut.now
           c.args.part,
-      c.in_ok-found.ensures,
       c.in_ok-by.ensures,
       c.as_slice.ensures,
       c.early_part.ensures.part,

@@ -2,7 +2,7 @@ use Rattle.std.proofs.Common.{◌≡◌, ℕ, [], None, Some, Option, ap, sym, �
 use Rattle.std.specs.Prelude.{slice_index_or, unwrap_or}
 use Rattle.tuple_values.specs.Document.{Doc}
 use Rattle.shard_segments.specs.declared.slot.Slot.{Slot}
-use Rattle.source_streams.proofs.kept.kept_at.Goals as goal
+use Rattle.source_streams.proofs.kept.document_at.Goals as goal
 
 -- the slot that is got has the document
 abbrev none : Slot
