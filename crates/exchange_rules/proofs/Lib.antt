@@ -1,3 +1,4 @@
+pub mod FaultLemmas
 pub mod GrowthLemmas
 pub mod RecordedLemmas
 pub mod FollowLemmas

@@ -7,7 +7,8 @@ use Rattle.shard_versions.specs.declared.cut.OwnMark.{OwnMark}
 use Rattle.exchange_rules.specs.Cells.{Log}
 use Rattle.exchange_rules.specs.Courses.{Course, ends, looks, makes, and_then}
 use Rattle.exchange_rules.specs.Accesses.{Access, a_look, a_step, marks_of, own_of, at_own, at_owns, had_after, looks_at}
-use Rattle.exchange_rules.specs.Following.{rest_after, Follows, Grows, Writer, counts, Reaches}
+use Rattle.exchange_rules.specs.Following.{rest_after, AreNoFewer, Faults, Follows, Grows, Writer, counts, Reaches}
+use Rattle.exchange_rules.proofs.FaultLemmas.{no_fewer_same, no_fewer_join}
 use Rattle.exchange_rules.proofs.GrowthLemmas.{grows_same, grows_join, own_still}
 use Rattle.exchange_rules.proofs.FollowLemmas.{follows_still, follows_join, follows_then, own_within}
 
@@ -52,6 +53,7 @@ reaches_none w p = record {
   marks = sym (append-nil w.marks);
   own = sym (append-nil w.own);
   looked = λ cell. sym (add-zero (get_or w.looks cell 0));
+  faults = no_fewer_same w.faults;
   followed = (refl, refl);
 }
 
@@ -81,6 +83,7 @@ reaches_join old mid new p q r a b =
         a.looked cell,
         b.looked cell,
       );
+      faults = no_fewer_join old.faults mid.faults new.faults a.faults b.faults;
       followed = follows_join old.me new.seen (counts old.seen) p a.accesses q (counts mid.seen)
           b.accesses r (counts new.seen) first second;
     }
@@ -95,8 +98,23 @@ reaches_then old new p q k a = record {
   marks = a.marks;
   own = a.own;
   looked = a.looked;
+  faults = a.faults;
   followed = follows_then old.me new.seen (counts old.seen) p k a.accesses q (counts new.seen)
       a.followed;
+}
+
+-- faults that were met afterwards
+unfoldable pub reaches_faulted : {A : Type 0} (old new : Writer) (f : Faults) (p q : Course A)
+    → AreNoFewer new.faults f → Reaches old new p q → Reaches old (record new { faults = f }) p q
+reaches_faulted old new f p q more a = record {
+  same = a.same;
+  grown = a.grown;
+  accesses = a.accesses;
+  marks = a.marks;
+  own = a.own;
+  looked = a.looked;
+  faults = no_fewer_join old.faults new.faults f a.faults more;
+  followed = a.followed;
 }
 
 -- what was appended by accesses that follow a course stays as logs grow

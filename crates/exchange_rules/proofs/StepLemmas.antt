@@ -15,7 +15,7 @@ use Rattle.exchange_rules.specs.Calls.{HasAppended, IsStopped, Refused, Passed, 
 use Rattle.exchange_rules.specs.Steps.{is_full, fitting, step_course, write_course, commit_pending, commit_shard_course, commit_unless, kinds_of, entries_by, AreBy, writes_in}
 use Rattle.exchange_rules.specs.declared.log_entry.LogEntry.TheVariants as logged
 use Rattle.exchange_rules.specs.declared.fault.SiteFault.{SiteFault}
-use Rattle.exchange_rules.specs.declared.fault.SiteFault.TheVariants.{ShardFull, TopicBound, BookFull, OutOfMemory}
+use Rattle.exchange_rules.specs.declared.fault.SiteFault.TheVariants.{ShardFull, TopicBound, BookFull, LogFault, CellClosed, OutOfMemory}
 use Rattle.exchange_rules.proofs.AppendedLemmas.{appended_none, appended_same, stopped_at, passed_on}
 use Rattle.exchange_rules.proofs.PrimitiveLemmas.{looks_from, made_from}
 
@@ -60,6 +60,8 @@ refused_for before old new limit c step refusal h (TopicBound kept) f e t =
 refused_for before old new limit c step refusal h (BookFull topics) f e t =
     (subst (λ x. HasAppended old new (fitting limit c step refusal h) (ends (Err x)) 0) (sym t)
     (fitting_refused old new limit c step refusal h f e)).reached
+refused_for before old new limit c step refusal h (LogFault cell n) f e t = absurd t
+refused_for before old new limit c step refusal h (CellClosed cell n) f e t = absurd t
 refused_for before old new limit c step refusal h (OutOfMemory n) f e t =
     subst (IsStopped before old new (fitting limit c step refusal h)) (sym t)
     (stopped_at before old new (fitting limit c step refusal h) (ends (Err refusal))

@@ -2,7 +2,7 @@
 use Rattle.std.specs.Prelude.{ℕ, zero, suc, ◌+◌, List, [], ◌∷◌, ◌++◌, codes, drop, length, pos, take}
 use Rattle.tuple_values.specs.Document.{Doc, long}
 use Rattle.exchange_rules.specs.declared.fault.SiteFault.{SiteFault}
-use Rattle.exchange_rules.specs.declared.fault.SiteFault.TheVariants.{ShardFull, TopicBound, BookFull, OutOfMemory}
+use Rattle.exchange_rules.specs.declared.fault.SiteFault.TheVariants.{ShardFull, TopicBound, BookFull, LogFault, CellClosed, OutOfMemory}
 
 -- at most so many batches of so many elements each, the last one perhaps shorter
 abbrev pub batches_up_to : {X : Type 0} → (most size : ℕ) → List X → List (List X)
@@ -55,4 +55,6 @@ abbrev pub stand_in : SiteFault → ℕ
 stand_in (ShardFull collection shard stand) = stand
 stand_in (TopicBound kept) = 0
 stand_in (BookFull topics) = 0
+stand_in (LogFault cell stand) = stand
+stand_in (CellClosed cell stand) = stand
 stand_in (OutOfMemory stand) = stand

@@ -1,5 +1,5 @@
 -- When what a writer did follows a course (own).
-use Rattle.std.specs.Prelude.{ℕ, ◌+◌, ◌≡◌, List, [], ◌∷◌, ◌++◌, get_or, map, length}
+use Rattle.std.specs.Prelude.{ℕ, ◌+◌, ◌≡◌, ◌≤◌, List, [], ◌∷◌, ◌++◌, get_or, map, length}
 use Rattle.shard_versions.specs.declared.cut.CutMark.{CutMark}
 use Rattle.shard_versions.specs.declared.cut.OwnMark.{OwnMark}
 use Rattle.exchange_rules.specs.Cells.{Log}
@@ -38,14 +38,20 @@ Grows [] (log ∷ logs) = ⊥
 Grows (log ∷ logs) [] = ⊥
 Grows (old ∷ olds) (new ∷ news) = ((more : Log) × (new ≡ old ++ more)) × Grows olds news
 
+-- how often a writer has found each cell closed, and noted a fault of each cell's log
+pub record Faults : Type 0 where
+  pub barred : List ℕ
+  pub broke : List ℕ
+
 -- a writer: its number, what it has seen of each cell, the marks and own marks of its record, and
--- how often it has looked at each cell since it began
+-- how often it has looked at each cell, and met faults there, since it began
 pub record Writer : Type 0 where
   pub me : ℕ
   pub seen : List Log
   pub marks : List CutMark
   pub own : List OwnMark
   pub looks : List ℕ
+  pub faults : Faults
 
 -- the writer with nothing in its record
 abbrev pub cleared : Writer → Writer
@@ -55,9 +61,14 @@ cleared w = record w { marks = []; own = [] }
 abbrev pub counts : List Log → List ℕ
 counts logs = map length logs
 
+-- no count is less than it was
+pub record AreNoFewer (old new : Faults) : Type 0 where
+  pub barred : (cell : ℕ) → get_or old.barred cell 0 ≤ get_or new.barred cell 0
+  pub broke : (cell : ℕ) → get_or old.broke cell 0 ≤ get_or new.broke cell 0
+
 -- from old to new the writer did accesses that follow the course down to this rest: its record
--- gained just their marks and own marks, and its count of looks at each cell rose by the number of
--- marks
+-- gained just their marks and own marks, its count of looks at each cell rose by the number of
+-- marks, and it may have met faults
 pub record Reaches {A : Type 0} (old new : Writer) (course rest : Course A) : Type 0 where
   pub same : new.me ≡ old.me
   pub grown : Grows old.seen new.seen
@@ -66,6 +77,7 @@ pub record Reaches {A : Type 0} (old new : Writer) (course rest : Course A) : Ty
   pub own : new.own ≡ old.own ++ own_of accesses
   pub looked : (cell : ℕ)
       → get_or new.looks cell 0 ≡ get_or old.looks cell 0 + looks_at cell (marks_of accesses)
+  pub faults : AreNoFewer old.faults new.faults
   pub followed : Follows old.me new.seen (counts old.seen) course accesses rest (counts new.seen)
 
 -- the writer followed the whole course, which has this answer

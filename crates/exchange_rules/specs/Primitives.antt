@@ -1,5 +1,5 @@
 -- What a writer can do at a cell: look at it, append a step to it, and deliver to it (own).
-use Rattle.std.specs.Prelude.{ℕ, ◌≡◌, ◌≢◌, true, List, [], ◌∷◌, ◌++◌, get_or, map, set, length}
+use Rattle.std.specs.Prelude.{ℕ, ◌≡◌, ◌≢◌, ◌⊎◌, true, List, [], ◌∷◌, ◌++◌, get_or, map, set, length}
 use Rattle.std.specs.List.{AllByRecursion}
 use Rattle.shard_versions.specs.declared.entry.Kind.{Kind}
 use Rattle.exchange_rules.specs.Cells.{Log, Payload, write, author_of}
@@ -38,3 +38,18 @@ made w cell step = record w {
 abbrev pub delivered : Writer → ℕ → List Kind → Writer
 delivered w cell [] = w
 delivered w cell (k ∷ ks) = made w cell (map write (closed true (k ∷ ks)))
+
+-- the writer after it found the cell closed
+abbrev pub barred_at : Writer → ℕ → Writer
+barred_at w cell =
+    record w { faults = record w.faults { barred = one_more cell w.faults.barred } }
+
+-- the writer after it noted a fault of the cell's log
+abbrev pub broken_at : Writer → ℕ → Writer
+broken_at w cell = record w { faults = record w.faults { broke = one_more cell w.faults.broke } }
+
+-- an append to the cell's log failed, and was noted: the step, which has so many writes, stands, or
+-- it doesn't; this many of its writes stand
+abbrev pub IsBroken : (old made : Writer) → ℕ → (writes stand : ℕ) → Writer → Type 0
+IsBroken old made cell writes stand new =
+    ((stand ≡ 0) × (new ≡ broken_at old cell)) ⊎ ((stand ≡ writes) × (new ≡ broken_at made cell))

@@ -27,6 +27,18 @@ pub enum SiteFault {
     BookFull {
         topics: u64,
     },
+    /// An append to the log of this cell failed. Whether its step stands, the writer's own marks tell.
+    #[error("LogFault")]
+    LogFault {
+        cell: u32,
+        stand: u64,
+    },
+    /// The cell is closed: an append to its log failed, and so did the reading after it.
+    #[error("CellClosed")]
+    CellClosed {
+        cell: u32,
+        stand: u64,
+    },
     /// An allocation was refused.
     #[error("out of memory")]
     OutOfMemory {

@@ -49,8 +49,8 @@ pub struct TopicRead {
     pub tuples: Tuples,
 }
 
-/// Why a topic's run stopped. Nothing is stored; a summary for each whole batch is told, and how
-/// many writes of the run stand.
+/// Why a topic's run stopped. Nothing is stored, but after a fault of the book's log what was to be
+/// stored stands or not; a summary for each whole batch is told, and how many writes of the run stand.
 #[derive(Debug, Drop, Error)]
 #[error("{fault}")]
 pub struct TopicFault {
