@@ -1,13 +1,15 @@
 -- What a pass can append in its turn, or why it can't.
-use Rattle.std.proofs.Common.{◌≡◌, ◌↔◌, ℕ, List, ap}
+use Rattle.std.proofs.Common.{◌≡◌, ◌↔◌, ℕ, List, sym, ap, subst}
 use Rattle.std.specs.Prelude.{IfErr, IfSome, OnOk, Some, Result, Ok, Err, IsErrOf}
 use Rattle.tuple_values.specs.declared.names.NameShards.{NameShards}
-use Rattle.shard_versions.specs.declared.fault.ShardFault.{ShardFault}
-use Rattle.shard_versions.specs.declared.fault.ShardFault.TheVariants as shard
 use Rattle.topic_book.specs.Books.{Book}
 use Rattle.topic_book.specs.States.{IsCauseOf}
 use Rattle.topic_book.specs.declared.topic.BookEntry.{BookEntry}
+use Rattle.exchange_rules.specs.Following.{Writer}
 use Rattle.exchange_rules.specs.declared.log_entry.LogEntry.{LogEntry}
+use Rattle.stream_site.specs.Refusals.{IsUnsealed}
+use Rattle.stream_site.specs.declared.refusal.StepRefusal.{StepRefusal}
+use Rattle.stream_site.specs.declared.refusal.StepRefusal.TheVariants as step
 use Rattle.site_laws.specs.Sealings.{MayAppend}
 use Rattle.site_laws.specs.declared.cell_about.CellAbout.{CellAbout}
 use Rattle.site_laws.specs.declared.sealing.Sealing.{Sealing}
@@ -18,7 +20,7 @@ use Rattle.site_cells.specs.Values.{value_of, CanReserve, IsEntryRefusal, IsRefu
 use Rattle.site_cells.specs.declared.cell_refusal.CellRefusal.{CellRefusal}
 use Rattle.site_cells.specs.declared.cell_refusal.CellRefusal.TheVariants.{ShardFull, TopicBound, BookFull, OutOfMemory}
 use Rattle.site_cells.specs.declared.site_cell.SiteCell.{SiteCell}
-use Rattle.running_site.specs.Seals.{book_fault_of, shard_fault_of, IsBookRefusal, IsFitting, IsRefusal, IsShardRefusal}
+use Rattle.running_site.specs.Seals.{book_fault_of, step_refusal_of, IsWhole, IsBookRefusal, IsFitting, IsRefusal, IsShardRefusal}
 use Rattle.running_site.specs.Visits.{IsVisit}
 use Rattle.running_site.proofs.SealLemmas.{if-there, of-there}
 use Rattle.running_site.proofs.ValueLemmas.{book-there, can-reserve, refused-by, shard-there, taken-fits}
@@ -64,13 +66,27 @@ step-is-shard P (BookFull topics) p = p
 step-is-shard P OutOfMemory p = tt
 
 -- it tells exactly whether the shard is full
-pub step-tells : {A : Type 0} (P : Type 0) (r : CellRefusal) (f : ShardFault)
-    → f ≡ shard_fault_of r → IsStepRefusal P r
-    → IsErrOf {T = A} (Err f) shard.ShardFull ↔ P
+pub step-tells : {A : Type 0} (P : Type 0) (r : CellRefusal) (f : StepRefusal)
+    → f ≡ step_refusal_of r → IsStepRefusal P r
+    → IsErrOf {T = A} (Err f) step.ShardFull ↔ P
 step-tells P ShardFull f e p = (λ _. p, λ _. ap Err e)
 step-tells P (TopicBound kept) f e p = absurd p
 step-tells P (BookFull topics) f e p = absurd p
 step-tells P OutOfMemory f e p = (λ is. absurd (cc), λ q. absurd (p q))
+
+-- nothing of the step stands
+pub step-whole : (r : CellRefusal) (f : StepRefusal) → f ≡ step_refusal_of r → IsWhole f
+step-whole ShardFull f e = subst IsWhole (sym e) tt
+step-whole (TopicBound kept) f e = subst IsWhole (sym e) tt
+step-whole (BookFull topics) f e = subst IsWhole (sym e) tt
+step-whole OutOfMemory f e = subst IsWhole (sym e) tt
+
+-- so the writer is as it was
+pub whole-unsealed : (Fits : Type 0) (old after : Writer) (cell writes : ℕ) (new : Writer)
+    (f : StepRefusal) → IsWhole f → new ≡ old → IsUnsealed Fits old after cell writes new f
+whole-unsealed Fits old after cell writes new step.ShardFull w e = e
+whole-unsealed Fits old after cell writes new (step.Broken n) w e = absurd w
+whole-unsealed Fits old after cell writes new step.OutOfMemory w e = e
 
 -- an entry's refusal is the book's
 pub entry-is-book : (b : Book) (e : BookEntry) (r : CellRefusal) → IsEntryRefusal b e r

@@ -4,7 +4,7 @@ use Rattle.std.specs.Prelude.{Result, Ok, Err}
 use Rattle.exchange_rules.specs.Calls.{Answered, Completed, Refused}
 use Rattle.exchange_rules.specs.Courses.{Course}
 use Rattle.exchange_rules.specs.declared.fault.SiteFault.{SiteFault}
-use Rattle.exchange_rules.specs.declared.fault.SiteFault.TheVariants.{ShardFull, TopicBound, BookFull, OutOfMemory}
+use Rattle.exchange_rules.specs.declared.fault.SiteFault.TheVariants.{ShardFull, TopicBound, BookFull, LogFault, CellClosed, OutOfMemory}
 use Rattle.exchange_rules.specs.Following.{Writer}
 use Rattle.exchange_rules.specs.Rows.{Layout}
 
@@ -27,6 +27,8 @@ refused-same : {A : Type 0} (before : ℕ) (old new : Writer) (p : Course (Resul
 refused-same before old new p (ShardFull collection shard stand) r = r.same
 refused-same before old new p (TopicBound kept) r = r.same
 refused-same before old new p (BookFull topics) r = r.same
+refused-same before old new p (LogFault cell stand) r = r.0.stood.reached.same
+refused-same before old new p (CellClosed cell stand) r = r.0.stood.reached.same
 refused-same before old new p (OutOfMemory stand) r = r.stood.reached.same
 
 -- a call keeps its writer's number
@@ -42,4 +44,6 @@ completed-same old new p (Ok a) d = d.reached.same
 completed-same old new p (Err (ShardFull collection shard stand)) d = absurd d
 completed-same old new p (Err (TopicBound kept)) d = absurd d
 completed-same old new p (Err (BookFull topics)) d = absurd d
+completed-same old new p (Err (LogFault cell stand)) d = absurd d
+completed-same old new p (Err (CellClosed cell stand)) d = d.0.stood.reached.same
 completed-same old new p (Err (OutOfMemory stand)) d = d.stood.reached.same

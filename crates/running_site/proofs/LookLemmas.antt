@@ -95,6 +95,7 @@ module _ (k k1 k2 : Known CellAbout LogEntry) (cell count : ℕ) (t : Turn SiteC
                   ++ record { cell = cell; upto = length (at k.seen cell ++ new) } ∷ [];
               own = own;
               looks = one_more_is cell k.looks lt i;
+              faults = record { barred = k.barred; broke = k.broke };
             });
       }
 

@@ -233,7 +233,14 @@ sealed-made k k2 marks own more cell x payloads s e =
         count = count i;
       } ∷ [];
       looks = k.looks;
+      faults = record { barred = k.barred; broke = k.broke };
     })
+
+-- the writer where nothing has changed
+pub writer-same : (k k2 : Known CellAbout LogEntry) (marks marks2 : List CutMark)
+    (own own2 : List OwnMark) → k2 ≡ k → marks2 ≡ marks → own2 ≡ own
+    → writer_in k2 marks2 own2 ≡ writer_in k marks own
+writer-same k k2 marks marks2 own own2 e f g = λ i. writer_in (e i) (f i) (g i)
 
 -- the payloads of a step
 pub step-signed : (names : List NameShards) (me : ℕ) (seen : List Log) (cell : ℕ)

@@ -22,7 +22,7 @@ use Rattle.turn_table.specs.declared.rule.Opening.{Opening}
 use Rattle.site_cells.specs.Cells.{abouts_of, no_logs}
 use Rattle.site_cells.specs.Values.{about_in, is_closed, log_of_cell, IsSettled}
 use Rattle.site_cells.specs.declared.site_cell.SiteCell.{SiteCell}
-use Rattle.running_site.specs.Passes.{layout_in, new_writer, sight_in, sight_where, writer_in, writer_of, writer_where, IsKnowing, IsOpened, IsPassIn, IsPassOf, TablePass}
+use Rattle.running_site.specs.Passes.{no_faults, layout_in, new_writer, sight_in, sight_where, writer_in, writer_of, writer_where, IsKnowing, IsOpened, IsPassIn, IsPassOf, TablePass}
 use Rattle.running_site.specs.Records.{content, recorded}
 use Rattle.running_site.specs.declared.pass.PassOf.{PassOf}
 use Rattle.running_site.proofs.CloseLemmas.{all-of}
@@ -142,6 +142,7 @@ module _ (names : List NameShards) (limit : ℕ) (abouts : List CellAbout) (star
         marks = [];
         own = [];
         looks = replicate (c i) 0;
+        faults = no_faults (c i);
       })) in
       (λ i. is i ∷ fresh-new numbers inside made c rest others i)
 

@@ -8,7 +8,7 @@ use Rattle.shard_versions.specs.declared.cut.CutMark.{CutMark}
 use Rattle.shard_versions.specs.declared.cut.OwnMark.{OwnMark}
 use Rattle.exchange_rules.specs.declared.log_entry.LogEntry.{LogEntry}
 use Rattle.exchange_rules.specs.Cells.{Log, author_of, history_in}
-use Rattle.exchange_rules.specs.Following.{Writer}
+use Rattle.exchange_rules.specs.Following.{Faults, Writer}
 use Rattle.exchange_rules.specs.Rows.{Layout}
 use Rattle.site_laws.specs.Looks.{last_seen, Sight}
 use Rattle.site_laws.specs.declared.cell_about.CellAbout.{CellAbout}
@@ -23,6 +23,10 @@ use Rattle.topic_book.specs.Cells.{Place, cells_in, place_of}
 use Rattle.site_cells.specs.declared.site_cell.SiteCell.{SiteCell}
 use Rattle.running_site.specs.declared.pass.PassOf.{PassOf}
 
+-- no fault at so many cells
+abbrev pub no_faults : ℕ → Faults
+no_faults cells = record { barred = replicate cells 0; broke = replicate cells 0 }
+
 -- a pass of the site's table
 abbrev pub TablePass : Type 0
 TablePass = Pass SiteCell CellAbout LogEntry
@@ -35,6 +39,7 @@ writer_in k marks own = record {
   marks = marks;
   own = own;
   looks = k.looks;
+  faults = record { barred = k.barred; broke = k.broke };
 }
 
 -- what it has seen, and when
@@ -48,7 +53,7 @@ layout_in names limit = record { names = names; limit = limit }
 -- the writer that a pass is; one that is away in a call has seen nothing
 abbrev pub writer_where : Option TablePass → List CutMark → List OwnMark → Writer
 writer_where None marks own =
-    record { me = 0; seen = []; marks = marks; own = own; looks = [] }
+    record { me = 0; seen = []; marks = marks; own = own; looks = []; faults = no_faults 0 }
 writer_where (Some p) marks own = writer_in (known p) marks own
 
 abbrev pub writer_of : PassOf TablePass → Writer
@@ -132,4 +137,5 @@ new_writer names number = record {
   marks = [];
   own = [];
   looks = replicate (cells_in names + 1) 0;
+  faults = no_faults (cells_in names + 1);
 }

@@ -2,8 +2,8 @@
 use Rattle.std.specs.Prelude.{ℕ, ◌≡◌, ◌++◌, ◌∷◌, [], true, List, length}
 use Rattle.shard_versions.specs.declared.cut.OwnMark.{OwnMark}
 use Rattle.shard_versions.specs.declared.entry.Entry.{Entry}
-use Rattle.shard_versions.specs.declared.fault.ShardFault.{ShardFault}
-use Rattle.shard_versions.specs.declared.fault.ShardFault.TheVariants as shard
+use Rattle.stream_site.specs.declared.refusal.StepRefusal.{StepRefusal}
+use Rattle.stream_site.specs.declared.refusal.StepRefusal.TheVariants as step
 use Rattle.topic_book.specs.States.{IsOpenTo}
 use Rattle.topic_book.specs.declared.fault.BookFault.{BookFault}
 use Rattle.topic_book.specs.declared.fault.BookFault.TheVariants as book
@@ -61,12 +61,18 @@ IsBookRefusal (TopicBound kept) = Unit {0}
 IsBookRefusal (BookFull topics) = Unit {0}
 IsBookRefusal OutOfMemory = Unit {0}
 
--- a shard's fault that it is; one of the book is none
-abbrev pub shard_fault_of : CellRefusal → ShardFault
-shard_fault_of ShardFull = shard.ShardFull
-shard_fault_of (TopicBound kept) = shard.OutOfMemory
-shard_fault_of (BookFull topics) = shard.OutOfMemory
-shard_fault_of OutOfMemory = shard.OutOfMemory
+-- the refusal of a step that it is; one of the book is none
+abbrev pub step_refusal_of : CellRefusal → StepRefusal
+step_refusal_of ShardFull = step.ShardFull
+step_refusal_of (TopicBound kept) = step.OutOfMemory
+step_refusal_of (BookFull topics) = step.OutOfMemory
+step_refusal_of OutOfMemory = step.OutOfMemory
+
+-- nothing of the step stands
+abbrev pub IsWhole : StepRefusal → Type 0
+IsWhole step.ShardFull = Unit {0}
+IsWhole (step.Broken writes) = ⊥
+IsWhole step.OutOfMemory = Unit {0}
 
 -- the book's fault that it is; one of a shard is none
 abbrev pub book_fault_of : CellRefusal → BookFault

@@ -9,19 +9,19 @@ ghost use Rattle.site_laws.specs.Sealings.{entries_of, MayAppend};
 ghost use Rattle.turn_table.specs.Calls.{known};
 ghost use Rattle.turn_table.specs.Histories.{at};
 ghost use Rattle.running_site.specs.Passes.{layout_in, writer_in};
-ghost use Rattle.running_site.specs.Seals.{IsFitting, IsRefusal, IsSealed, IsBookRefusal, IsShardRefusal, book_fault_of, shard_fault_of};
+ghost use Rattle.running_site.specs.Seals.{IsFitting, IsRefusal, IsSealed, IsBookRefusal, IsShardRefusal, IsWhole, book_fault_of, step_refusal_of};
 ghost use Rattle.running_site.specs.Visits.{AreCounted, HasTurn};
 
 use crate::Site;
 use crate::sealing::seal_in;
 use crate::visit::Visit;
-use shard_versions::{CutMark, CutMarks, OwnMarks, Record, ShardFault, ShardState, Snapshot, Step};
+use shard_versions::{CutMark, CutMarks, OwnMarks, Record, ShardState, Snapshot, Step};
 use site_cells::{CellRefusal, SiteCell};
 use site_laws::Sealing;
 use std::alloc::Global;
 use std::mem::replace;
 use std::sync::Wait;
-use stream_site::{Turns, admitted, close};
+use stream_site::{EntryRefusal, LookRefusal, StepRefusal, Turns, admitted, close};
 use topic_book::{Binding, BookEntry, BookFault, BookState, TopicKey};
 use tuple_values::{Memory, Names, Versions};
 use turn_table::{CellState, Turn};
@@ -37,16 +37,16 @@ fn hold(slot: &mut Option<Turn<SiteCell>>, turn: Turn<SiteCell>)
     }
 }
 
-/// Why a shard made no room, as the shard's fault.
-fn shard_fault(refusal: CellRefusal) -> ShardFault
+/// Why a shard made no room, as the refusal of a step.
+fn step_refusal(refusal: CellRefusal) -> StepRefusal
     requires { IsShardRefusal refusal }
-    ensures { result ≡ shard_fault_of refusal }
+    ensures { result ≡ step_refusal_of refusal }
 {
     match refusal {
-        CellRefusal::ShardFull => ShardFault::ShardFull,
+        CellRefusal::ShardFull => StepRefusal::ShardFull,
         CellRefusal::TopicBound { kept: _ } => unreachable!(),
         CellRefusal::BookFull { topics: _ } => unreachable!(),
-        CellRefusal::OutOfMemory => ShardFault::OutOfMemory,
+        CellRefusal::OutOfMemory => StepRefusal::OutOfMemory,
     }
 }
 
@@ -124,7 +124,7 @@ impl<R> Visit<'_, R> {
     }
 
     /// Appends a step to the shard whose turn the pass has.
-    fn append_step(&mut self, cell: u32, step: Step) -> Result<(), ShardFault>
+    fn append_step(&mut self, cell: u32, step: Step) -> Result<(), StepRefusal>
         requires holds { HasTurn self.old.turn cell }
         requires allowed { MayAppend self.old.site.now.names (known self.old.pass).number
             (known self.old.pass).seen cell (Sealing.Shard step) }
@@ -138,13 +138,14 @@ impl<R> Visit<'_, R> {
         ensures err { OnErr result
             (writer_in (known self.new.pass) self.new.marks.items self.new.own.items
             ≡ writer_in (known self.old.pass) self.old.marks.items self.old.own.items) }
-        ensures shard_full { IsErrOf result ShardFault.ShardFull
+        ensures whole { IfErr result IsWhole }
+        ensures shard_full { IsErrOf result StepRefusal.ShardFull
             ↔ (is_full self.old.site.now.limit (history_in (at (known self.old.pass).seen cell))
             (kinds_of step) ≡ true) }
     {
         match self.append(cell, Sealing::Shard(step)) {
             Ok(()) => Ok(()),
-            Err(refusal) => Err(shard_fault(refusal)),
+            Err(refusal) => Err(step_refusal(refusal)),
         }
     }
 }
@@ -191,9 +192,12 @@ impl<R: Wait> Turns for Visit<'_, R> {
         Ok(())
     }
 
-    fn look(&mut self, cell: u32) -> Result<(), Memory> {
+    fn look(&mut self, cell: u32) -> Result<(), LookRefusal> {
         self.leave();
-        self.marks.reserve(1)?;
+        match self.marks.reserve(1) {
+            Ok(()) => {}
+            Err(_) => return Err(LookRefusal::OutOfMemory),
+        }
         let Some(turn) = self.site.table.turn(self.rt, &mut self.pass, cell) else {
             unreachable!()
         };
@@ -223,14 +227,14 @@ impl<R: Wait> Turns for Visit<'_, R> {
         self.shard(cell).snapshot(alloc)
     }
 
-    fn seal(&mut self, cell: u32, step: Step) -> Result<(), ShardFault> {
+    fn seal(&mut self, cell: u32, step: Step) -> Result<(), StepRefusal> {
         self.append_step(cell, step)
     }
 
-    fn deliver(&mut self, cell: u32, step: Step) -> Result<u64, ShardFault> {
+    fn deliver(&mut self, cell: u32, step: Step) -> Result<u64, StepRefusal> {
         let kept = match admitted(self.alloc, self.shard(cell), step) {
             Ok(kept) => kept,
-            Err(_) => return Err(ShardFault::OutOfMemory),
+            Err(_) => return Err(StepRefusal::OutOfMemory),
         };
         let count = kept.len() as u64;
         if count == 0 {
@@ -238,7 +242,7 @@ impl<R: Wait> Turns for Visit<'_, R> {
         }
         let whole = match close(kept, self.pass.number(), true) {
             Ok(whole) => whole,
-            Err(_) => return Err(ShardFault::OutOfMemory),
+            Err(_) => return Err(StepRefusal::OutOfMemory),
         };
         match self.append_step(cell, whole) {
             Ok(()) => Ok(count),
@@ -258,11 +262,11 @@ impl<R: Wait> Turns for Visit<'_, R> {
         self.book().is_raised(key, upto)
     }
 
-    fn append_entry(&mut self, entry: BookEntry) -> Result<(), BookFault> {
+    fn append_entry(&mut self, entry: BookEntry) -> Result<(), EntryRefusal> {
         let cell = self.site.table.cells() - 1;
         match self.append(cell, Sealing::Book(entry)) {
             Ok(()) => Ok(()),
-            Err(refusal) => Err(book_fault(refusal)),
+            Err(refusal) => Err(EntryRefusal::Book(book_fault(refusal))),
         }
     }
 

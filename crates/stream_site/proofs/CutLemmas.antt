@@ -17,7 +17,7 @@ use Rattle.exchange_rules.specs.Rows.{Layout, shown_of, part_of, cut_shards, cut
 use Rattle.exchange_rules.specs.declared.fault.SiteFault.{SiteFault}
 use Rattle.exchange_rules.proofs.PrimitiveLemmas.{looks_from}
 use Rattle.stream_site.specs.Spots.{IsSpot}
-use Rattle.stream_site.specs.declared.place.Spot.{Spot}
+use Rattle.stream_site.specs.declared.spot.Spot.{Spot}
 use Rattle.stream_site.proofs.PlaceLemmas.{from_item}
 
 -- the part that a look shows

@@ -14,7 +14,7 @@ use Rattle.exchange_rules.specs.declared.fault.SiteFault.{SiteFault}
 use Rattle.exchange_rules.specs.declared.fault.SiteFault.TheVariants.{ShardFull}
 use Rattle.exchange_rules.proofs.ShardLemmas.{each_end, each_refused, each_appended}
 use Rattle.stream_site.specs.Spots.{IsSpot, full_there}
-use Rattle.stream_site.specs.declared.place.Spot.{Spot}
+use Rattle.stream_site.specs.declared.spot.Spot.{Spot}
 use Rattle.stream_site.proofs.SpotLemmas.{at_spot}
 
 -- what was done where a call stands is what the course has at its shard

@@ -2,6 +2,7 @@ pub mod PlaceLemmas
 pub mod SpotLemmas
 pub mod ShareLemmas
 pub mod TestLemmas
+pub mod RefusalLemmas
 pub mod CloseLemmas
 pub mod IndexLemmas
 pub mod TakenLemmas
@@ -14,4 +15,5 @@ pub mod MayLemmas
 pub mod SendLemmas
 pub mod AdmitLemmas
 pub mod TopicLemmas
+pub mod BookLemmas
 pub mod FitLemmas

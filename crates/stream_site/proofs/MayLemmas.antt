@@ -20,7 +20,7 @@ use Rattle.site_laws.specs.Duties.{IsFitStep, MayWrite}
 use Rattle.site_laws.proofs.WriteLemmas.{may-write, closed-fit, mark-fit, routed-fit}
 use Rattle.stream_site.specs.Shares.{AreShares}
 use Rattle.stream_site.specs.Spots.{IsSpot}
-use Rattle.stream_site.specs.declared.place.Spot.{Spot}
+use Rattle.stream_site.specs.declared.spot.Spot.{Spot}
 
 -- what may stand at a shard of a collection may where a call stands there
 pub fit_here : (l m : Layout) (c : ByteList) (s stand : ℕ) (at : Spot) (step share : List Entry)

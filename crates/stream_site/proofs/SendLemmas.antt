@@ -34,7 +34,7 @@ use Rattle.site_laws.specs.Duties.{MaySend, MayDeliver}
 use Rattle.site_laws.proofs.DutyLemmas.{may-deliver}
 use Rattle.stream_site.specs.Shares.{AreDeliveries, AreRouted, share_in}
 use Rattle.stream_site.specs.Spots.{IsSpot, full_there}
-use Rattle.stream_site.specs.declared.place.Spot.{Spot}
+use Rattle.stream_site.specs.declared.spot.Spot.{Spot}
 use Rattle.stream_site.proofs.IndexLemmas.{below_next}
 use Rattle.stream_site.proofs.SpotLemmas.{at_spot}
 

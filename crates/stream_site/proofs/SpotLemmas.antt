@@ -7,7 +7,7 @@ use Rattle.exchange_rules.specs.Rows.{Layout}
 use Rattle.exchange_rules.specs.declared.fault.SiteFault.{SiteFault}
 use Rattle.exchange_rules.specs.declared.fault.SiteFault.TheVariants.{ShardFull}
 use Rattle.stream_site.specs.Spots.{IsSpot, full_there}
-use Rattle.stream_site.specs.declared.place.Spot.{Spot}
+use Rattle.stream_site.specs.declared.spot.Spot.{Spot}
 
 -- a step's refusal there is that of the shard
 full_here : (names : List NameShards) (c : ByteList) (s stand : ℕ) (at : Spot)

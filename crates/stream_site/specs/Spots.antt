@@ -5,7 +5,7 @@ use Rattle.tuple_values.specs.declared.names.NameShards.{NameShards}
 use Rattle.topic_book.specs.Cells.{cell_of}
 use Rattle.exchange_rules.specs.declared.fault.SiteFault.{SiteFault}
 use Rattle.exchange_rules.specs.declared.fault.SiteFault.TheVariants.{ShardFull}
-use Rattle.stream_site.specs.declared.place.Spot.{Spot}
+use Rattle.stream_site.specs.declared.spot.Spot.{Spot}
 
 -- the refusal of a step there
 abbrev pub full_there : Spot → SiteFault

@@ -6,7 +6,8 @@ ghost use Rattle.exchange_rules.specs.Cells.{history_in};
 ghost use Rattle.exchange_rules.specs.Courses.{ends, looks};
 ghost use Rattle.exchange_rules.specs.Rows.{HasCell, cut_course, cut_shards, part_of};
 
-use crate::place::{Spot, locate, width};
+use crate::place::{locate, width};
+use crate::spot::Spot;
 use crate::{SiteFault, Turns};
 use shard_versions::{Cut, CutPart, Snapshot};
 use std::alloc::Global;

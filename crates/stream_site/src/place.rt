@@ -7,6 +7,7 @@ ghost use Rattle.exchange_rules.specs.Rows.{HasCell};
 ghost use Rattle.stream_site.specs.Spots.{IsSpot};
 
 use crate::Turns;
+use crate::spot::Spot;
 use tuple_values::{Names, Text};
 
 /// How many shards the collection has, and 0 where there is none of this name.
@@ -39,16 +40,6 @@ pub(crate) fn width<T: Turns>(site: &T, collection: &Text) -> u16
     ensures { result ≡ shards_of (T.layout site.now).names collection.now }
 {
     shards_of(site.names(), collection.as_str())
-}
-
-/// Where a call is: at a shard of a collection, with its cell, after so many of the call's
-/// writes.
-#[derive(Clone, Copy)]
-pub(crate) struct Spot<'a> {
-    pub(crate) collection: &'a Text,
-    pub(crate) shard: u16,
-    pub(crate) cell: u32,
-    pub(crate) stand: u64,
 }
 
 /// A call at the collection's shard, as a writer of the site finds it.

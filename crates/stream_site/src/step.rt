@@ -1,8 +1,9 @@
 // One step at a shard.
-ghost use Rattle.std.specs.Prelude.{◌≡◌, ◌<◌, ◌≤◌, ◌++◌, ◌∷◌, [], List, IfOk, get_or, length, if◌then◌else◌};
+ghost use Rattle.std.specs.Prelude.{◌≡◌, ◌+◌, ◌<◌, ◌^◌, ◌≤◌, ◌++◌, ◌∷◌, [], List, IfOk, get_or, length, if◌then◌else◌};
 ghost use Rattle.shard_versions.specs.Deliveries.{mark_by};
 ghost use Rattle.exchange_rules.specs.Calls.{Passed, PassedSent, IsFaultFor};
 ghost use Rattle.exchange_rules.specs.Cells.{Log, history_in};
+ghost use Rattle.exchange_rules.specs.declared.fault.SiteFault.TheVariants.{LogFault};
 ghost use Rattle.exchange_rules.specs.Deliveries.{admitted_kinds, send_admitted, send_step};
 ghost use Rattle.exchange_rules.specs.Following.{Grows};
 ghost use Rattle.exchange_rules.specs.Rows.{HasCell};
@@ -10,9 +11,10 @@ ghost use Rattle.exchange_rules.specs.Steps.{AreBy, closed, fitting, kinds_of, c
 ghost use Rattle.site_laws.specs.Duties.{IsFitStep, MayDeliver, MayWrite};
 ghost use Rattle.stream_site.specs.Spots.{full_there};
 
-use crate::place::Spot;
+use crate::refusal::{StepRefusal, unseen};
+use crate::spot::Spot;
 use crate::{SiteFault, Turns};
-use shard_versions::{Entry, ShardFault, Step};
+use shard_versions::{Entry, Step};
 use std::alloc::Global;
 use tuple_values::{Memory, TryCopy};
 
@@ -31,6 +33,17 @@ fn full_at(alloc: Global, at: &Spot) -> SiteFault
     }
 }
 
+/// The fault of the log where the call is, when so many more of its writes stand.
+fn broken_at(at: &Spot, writes: u64) -> SiteFault
+    requires { at.now.stand + writes < 2 ^ 64 }
+    ensures { result ≡ LogFault at.now.cell (at.now.stand + writes) }
+{
+    SiteFault::LogFault {
+        cell: at.cell,
+        stand: at.stand + writes,
+    }
+}
+
 /// The step behind what was just seen of the cell, unless it doesn't fit.
 fn append_over<T: Turns>(
     alloc: Global,
@@ -42,6 +55,7 @@ fn append_over<T: Turns>(
     requires holds { T.holds site.old at.now.cell }
     requires allowed { MayWrite (T.layout site.old).names (T.writer site.old).me
         (T.writer site.old).seen at.now.cell step }
+    requires few { at.now.stand + writes_in (kinds_of step) < 2 ^ 64 }
     ensures course { Passed at.now.stand (T.writer site.old) (T.writer site.new)
         (fitting (T.layout site.old).limit at.now.cell (kinds_of step)
         (full_there at.now)
@@ -52,8 +66,9 @@ fn append_over<T: Turns>(
 {
     match site.seal(at.cell, step) {
         Ok(()) => Ok(()),
-        Err(ShardFault::ShardFull) => Err(full_at(alloc, at)),
-        Err(ShardFault::OutOfMemory) => Err(SiteFault::OutOfMemory { stand: at.stand }),
+        Err(StepRefusal::ShardFull) => Err(full_at(alloc, at)),
+        Err(StepRefusal::Broken { writes }) => Err(broken_at(at, writes)),
+        Err(StepRefusal::OutOfMemory) => Err(SiteFault::OutOfMemory { stand: at.stand }),
     }
 }
 
@@ -63,6 +78,7 @@ fn step_over<T: Turns>(alloc: Global, site: &mut T, at: &Spot, step: Step) -> Re
     requires own { AreBy (T.writer site.old).me step }
     requires filled { 0 < length step }
     requires fit { IsFitStep (T.layout site.old).names at.now.cell step }
+    requires few { at.now.stand + writes_in (kinds_of step) < 2 ^ 64 }
     ensures course { Passed at.now.stand (T.writer site.old) (T.writer site.new)
         (step_course (T.layout site.old).limit at.now.cell (kinds_of step)
         (full_there at.now))
@@ -72,7 +88,7 @@ fn step_over<T: Turns>(alloc: Global, site: &mut T, at: &Spot, step: Step) -> Re
 {
     match site.look(at.cell) {
         Ok(()) => append_over(alloc, site, at, step),
-        Err(_) => Err(SiteFault::OutOfMemory { stand: at.stand }),
+        Err(refusal) => Err(unseen(refusal, at.stand)),
     }
 }
 
@@ -97,6 +113,7 @@ pub(crate) fn write_over<T: Turns>(
     requires in_range { HasCell (T.layout site.old) (T.writer site.old) at.now.cell }
     requires own { AreBy (T.writer site.old).me step }
     requires fit { IsFitStep (T.layout site.old).names at.now.cell step }
+    requires few { at.now.stand + writes_in (kinds_of step) < 2 ^ 64 }
     ensures course { Passed at.now.stand (T.writer site.old) (T.writer site.new)
         (write_course (T.layout site.old).limit at.now.cell (closed commit (kinds_of step))
         (full_there at.now))
@@ -152,7 +169,7 @@ fn commit_shard_over<T: Turns>(alloc: Global, site: &mut T, at: &Spot) -> Result
 {
     match site.look(at.cell) {
         Ok(()) => commit_pending_over(alloc, site, at),
-        Err(_) => Err(SiteFault::OutOfMemory { stand: at.stand }),
+        Err(refusal) => Err(unseen(refusal, at.stand)),
     }
 }
 
@@ -187,6 +204,7 @@ pub(crate) fn deliver_over<T: Turns>(
     requires in_range { HasCell (T.layout site.old) (T.writer site.old) at.now.cell }
     requires allowed { 0 < length step → (seen : List Log) → Grows (T.writer site.old).seen seen
         → MayDeliver (T.layout site.old).names (T.writer site.old).me seen at.now.cell step }
+    requires few { at.now.stand + length step < 2 ^ 64 }
     ensures course { PassedSent at.now.stand (T.writer site.old) (T.writer site.new)
         (send_step (T.layout site.old).limit at.now.cell (full_there at.now)
         (kinds_of step)) result }
@@ -199,7 +217,7 @@ pub(crate) fn deliver_over<T: Turns>(
     }
     match site.look(at.cell) {
         Ok(()) => deliver_seen_over(alloc, site, at, step),
-        Err(_) => Err(SiteFault::OutOfMemory { stand: at.stand }),
+        Err(refusal) => Err(unseen(refusal, at.stand)),
     }
 }
 
@@ -214,6 +232,7 @@ fn deliver_seen_over<T: Turns>(
     requires holds { T.holds site.old at.now.cell }
     requires allowed { MayDeliver (T.layout site.old).names (T.writer site.old).me
         (T.writer site.old).seen at.now.cell step }
+    requires few { at.now.stand + length step < 2 ^ 64 }
     ensures course { PassedSent at.now.stand (T.writer site.old) (T.writer site.new)
         (send_admitted (T.layout site.old).limit at.now.cell (full_there at.now)
         (history_in (get_or (T.writer site.old).seen at.now.cell []))
@@ -226,7 +245,8 @@ fn deliver_seen_over<T: Turns>(
 {
     match site.deliver(at.cell, step) {
         Ok(admitted) => Ok(admitted),
-        Err(ShardFault::ShardFull) => Err(full_at(alloc, at)),
-        Err(ShardFault::OutOfMemory) => Err(SiteFault::OutOfMemory { stand: at.stand }),
+        Err(StepRefusal::ShardFull) => Err(full_at(alloc, at)),
+        Err(StepRefusal::Broken { writes }) => Err(broken_at(at, writes)),
+        Err(StepRefusal::OutOfMemory) => Err(SiteFault::OutOfMemory { stand: at.stand }),
     }
 }

@@ -1,5 +1,5 @@
 // The calls on topics: the state of one, a Bind and a Store.
-ghost use Rattle.std.specs.Prelude.{◌≡◌, ◌<◌, length, IfOk, OnErr, Some, None};
+ghost use Rattle.std.specs.Prelude.{◌≡◌, ◌<◌, length, IfErr, IfOk, Some, None};
 ghost use Rattle.topic_book.specs.Books.{binding_of, checkpoints};
 ghost use Rattle.topic_book.specs.Fitness.{IsOnCollections};
 ghost use Rattle.once_core.specs.Allowed.{MayStore};
@@ -7,12 +7,13 @@ ghost use Rattle.query_syntax.specs.Meaning.{IsReadable};
 ghost use Rattle.exchange_rules.specs.Bindings.{bind_again, bind_course, bind_new, bind_seen, book_cell, book_seen, checkpoint_in, store_course, store_seen, topic_state_course};
 ghost use Rattle.exchange_rules.specs.Calls.{Answered, Completed, Passed};
 ghost use Rattle.site_laws.specs.SiteCells.{histories_in};
-ghost use Rattle.stream_site.specs.Topics.{fault_of};
+ghost use Rattle.stream_site.specs.Topics.{HasStoredNone};
 
 use crate::place::find_book;
+use crate::refusal::unadded;
 use crate::{SiteFault, Turns};
 use std::alloc::Global;
-use topic_book::{Binding, BookEntry, BookFault, TopicKey, is_alike};
+use topic_book::{Binding, BookEntry, TopicKey, is_alike};
 use tuple_values::{Memory, TryCopy, Versions};
 
 /// The topic's checkpoint in what was just seen of the book, and none where it isn't bound.
@@ -68,17 +69,6 @@ fn bind_again_over<T: Turns>(
     Err(SiteFault::TopicBound { kept })
 }
 
-/// Why a Bind was refused, as the fault of a call.
-fn fault_of(fault: BookFault) -> SiteFault
-    ensures { result ≡ fault_of fault }
-{
-    match fault {
-        BookFault::TopicBound { kept } => SiteFault::TopicBound { kept },
-        BookFault::BookFull { topics } => SiteFault::BookFull { topics },
-        BookFault::OutOfMemory => SiteFault::OutOfMemory { stand: 0 },
-    }
-}
-
 /// A Bind of a topic that isn't bound.
 fn bind_new_over<T: Turns>(
     alloc: Global,
@@ -105,7 +95,7 @@ fn bind_new_over<T: Turns>(
         binding,
     }) {
         Ok(()) => {}
-        Err(fault) => return Err(fault_of(fault)),
+        Err(refusal) => return Err(unadded(find_book(site), refusal)),
     }
     let upto = checkpoint_seen_over(alloc, site, key)?;
     Ok(upto)
@@ -228,7 +218,8 @@ fn store_seen_over<T: Turns>(
     ensures course { Passed 0 (T.writer site.old) (T.writer site.new)
         (store_seen (T.layout site.old).names key.now upto
         (book_seen (T.layout site.old) (T.writer site.old))) 0 result }
-    ensures unstored { OnErr result ((T.writer site.new).own ≡ (T.writer site.old).own) }
+    ensures unstored { IfErr result (HasStoredNone (book_cell (T.layout site.old).names)
+        (T.writer site.old) (T.writer site.new)) }
     ensures layout { T.layout site.new ≡ T.layout site.old }
     ensures home { T.home site.new ≡ T.home site.old }
 {
@@ -238,10 +229,9 @@ fn store_seen_over<T: Turns>(
     let key = key.copy(alloc)?;
     let by = site.number();
     match site.append_entry(BookEntry::Store { by, key, upto }) {
-        Ok(()) => {}
-        Err(_) => return Err(SiteFault::OutOfMemory { stand: 0 }),
+        Ok(()) => Ok(()),
+        Err(refusal) => Err(unadded(find_book(site), refusal)),
     }
-    Ok(())
 }
 
 /// One look at the book, and a Store where it raises something.
@@ -255,7 +245,8 @@ fn store_step_over<T: Turns>(
         (histories_in (T.layout site.old).names (T.writer site.old).seen) key.now upto }
     ensures course { Answered (T.writer site.old) (T.writer site.new)
         (store_course (T.layout site.old).names key.now upto) result }
-    ensures unstored { OnErr result ((T.writer site.new).own ≡ (T.writer site.old).own) }
+    ensures unstored { IfErr result (HasStoredNone (book_cell (T.layout site.old).names)
+        (T.writer site.old) (T.writer site.new)) }
     ensures layout { T.layout site.new ≡ T.layout site.old }
     ensures home { T.home site.new ≡ T.home site.old }
 {
@@ -267,7 +258,7 @@ fn store_step_over<T: Turns>(
 
 /// Stores at one look at the book up to where the topic was delivered; where that raises nothing,
 /// nothing is added. The writer has seen that it was delivered. It has no turn afterwards. After an
-/// `Err` nothing is added.
+/// `Err` nothing is added, but after a fault of the book's log the Store stands or it doesn't.
 pub fn store_topic_over<T: Turns>(
     alloc: Global,
     site: &mut T,
@@ -278,7 +269,8 @@ pub fn store_topic_over<T: Turns>(
         (histories_in (T.layout site.old).names (T.writer site.old).seen) key.now upto }
     ensures course { Answered (T.writer site.old) (T.writer site.new)
         (store_course (T.layout site.old).names key.now upto) result }
-    ensures unstored { OnErr result ((T.writer site.new).own ≡ (T.writer site.old).own) }
+    ensures unstored { IfErr result (HasStoredNone (book_cell (T.layout site.old).names)
+        (T.writer site.old) (T.writer site.new)) }
     ensures free { T.free site.new }
     ensures layout { T.layout site.new ≡ T.layout site.old }
     ensures home { T.home site.new ≡ T.home site.old }

@@ -1,7 +1,8 @@
 // What a writer does at a cell, and what it can know of one.
-use shard_versions::{Record, ShardFault, Snapshot, Step};
+use crate::refusal::{EntryRefusal, LookRefusal, StepRefusal};
+use shard_versions::{Record, Snapshot, Step};
 use std::alloc::Global;
-use topic_book::{Binding, BookEntry, BookFault, TopicKey};
+use topic_book::{Binding, BookEntry, TopicKey};
 use tuple_values::{Memory, Names, Versions};
 
 /// A writer of a site. What a call does is written over looks, and over what is appended where the
@@ -11,7 +12,7 @@ pub trait Turns {
     ghost use Rattle.shard_versions.specs.Histories.{is_pending};
     ghost use Rattle.topic_book.specs.Books.{binding_of, checkpoints, raises};
     ghost use Rattle.topic_book.specs.Cells.{cells_in};
-    ghost use Rattle.topic_book.specs.States.{IsCauseOf, IsOpenTo};
+    ghost use Rattle.topic_book.specs.States.{IsOpenTo};
     ghost use Rattle.once_core.specs.Allowed.{MayStore};
     ghost use Rattle.once_core.specs.Law.{IsFitCell};
     ghost use Rattle.exchange_rules.specs.Bindings.{book_cell, book_seen};
@@ -20,10 +21,11 @@ pub trait Turns {
     ghost use Rattle.exchange_rules.specs.Following.{Writer, cleared};
     ghost use Rattle.exchange_rules.specs.Primitives.{LooksAt, delivered, made};
     ghost use Rattle.exchange_rules.specs.Rows.{Layout, HasCell, shown_of};
-    ghost use Rattle.exchange_rules.specs.Steps.{is_full, is_over, kinds_of};
+    ghost use Rattle.exchange_rules.specs.Steps.{is_full, is_over, kinds_of, writes_in};
     ghost use Rattle.site_laws.specs.Duties.{MayDeliver, MayAppendEntry, MayWrite};
     ghost use Rattle.site_laws.specs.SiteCells.{histories_in};
     ghost use Rattle.stream_site.specs.Lone.{IsAllOwn};
+    ghost use Rattle.stream_site.specs.Refusals.{IsUnadded, IsUnsealed, IsUnseen};
     ghost use Rattle.stream_site.specs.Rooms.{MayWant};
 
     /// Where the writer is: it stays there.
@@ -89,15 +91,16 @@ pub trait Turns {
         ensures later { later self.old self.new };
 
     /// Gives back the turn that the writer has, if any, takes the cell's and looks. Entries of
-    /// others may have come since it was seen. It wants memory only where there was no room for a
-    /// look, or where the looks at the cell can't be counted any further, and it takes up the room
-    /// of one look at most.
-    fn look(&mut self, cell: u32) -> Result<(), Memory>
+    /// others may have come since it was seen. It is refused where the cell is closed. It wants
+    /// memory only where there was no room for a look, or where the looks at the cell can't be
+    /// counted any further, and it takes up the room of one look at most.
+    fn look(&mut self, cell: u32) -> Result<(), LookRefusal>
         requires { cell < length (writer self.old).seen }
         ensures ok { OnOk result (LooksAt (writer self.old) (writer self.new) cell) }
         ensures holds { OnOk result (holds self.new cell) }
-        ensures err { OnErr result (writer self.new ≡ writer self.old) }
-        ensures cause { OnErr result (MayWant (room self.old) (writer self.old) cell) }
+        ensures err { IfErr result (IsUnseen (writer self.old) (writer self.new) cell) }
+        ensures cause { IsErrOf result LookRefusal.OutOfMemory
+            → MayWant (room self.old) (writer self.old) cell }
         ensures room { room self.old ≤ room self.new + 1 }
         ensures layout { layout self.new ≡ layout self.old }
         ensures home { home self.new ≡ home self.old }
@@ -125,17 +128,21 @@ pub trait Turns {
         ensures { IfOk result
             (λ s. s ≡ shown_of (history_in (get_or (writer self.now).seen cell []))) };
 
-    /// Appends the writer's step right behind what it has seen of the cell. The room for looks
-    /// stays.
-    fn seal(&mut self, cell: u32, step: Step) -> Result<(), ShardFault>
+    /// Appends the writer's step right behind what it has seen of the cell. Where the append to the
+    /// cell's log fails, the step stands or it doesn't. The room for looks stays.
+    fn seal(&mut self, cell: u32, step: Step) -> Result<(), StepRefusal>
         requires in_range { HasCell (layout self.old) (writer self.old) cell }
         requires holds { holds self.old cell }
         requires allowed { MayWrite (layout self.old).names (writer self.old).me
             (writer self.old).seen cell step }
         ensures ok { OnOk result
             (writer self.new ≡ made (writer self.old) cell (map write (kinds_of step))) }
-        ensures err { OnErr result (writer self.new ≡ writer self.old) }
-        ensures shard_full { IsErrOf result ShardFault.ShardFull
+        ensures err { IfErr result (IsUnsealed
+            (is_full (layout self.old).limit (history_in (get_or (writer self.old).seen cell []))
+            (kinds_of step) ≡ false)
+            (writer self.old) (made (writer self.old) cell (map write (kinds_of step))) cell
+            (writes_in (kinds_of step)) (writer self.new)) }
+        ensures shard_full { IsErrOf result StepRefusal.ShardFull
             ↔ (is_full (layout self.old).limit (history_in (get_or (writer self.old).seen cell []))
             (kinds_of step) ≡ true) }
         ensures room { room self.new ≡ room self.old }
@@ -144,9 +151,9 @@ pub trait Turns {
         ensures home { home self.new ≡ home self.old };
 
     /// Appends those entries of a step of deliveries that what was seen of the cell admits, and a
-    /// Mark behind them; nothing where none is admitted. The answer is how many are. The room for
-    /// looks stays.
-    fn deliver(&mut self, cell: u32, step: Step) -> Result<u64, ShardFault>
+    /// Mark behind them; nothing where none is admitted. The answer is how many are. Where the append
+    /// to the cell's log fails, they stand or they don't. The room for looks stays.
+    fn deliver(&mut self, cell: u32, step: Step) -> Result<u64, StepRefusal>
         requires in_range { HasCell (layout self.old) (writer self.old) cell }
         requires holds { holds self.old cell }
         requires allowed { MayDeliver (layout self.old).names (writer self.old).me
@@ -159,8 +166,16 @@ pub trait Turns {
             (history_in (get_or (writer self.old).seen cell []))
             (admitted_kinds (history_in (get_or (writer self.old).seen cell [])) (kinds_of step))
             ≡ false) }
-        ensures err { OnErr result (writer self.new ≡ writer self.old) }
-        ensures shard_full { IsErrOf result ShardFault.ShardFull
+        ensures err { IfErr result (IsUnsealed
+            (is_over (layout self.old).limit (history_in (get_or (writer self.old).seen cell []))
+            (admitted_kinds (history_in (get_or (writer self.old).seen cell [])) (kinds_of step))
+            ≡ false)
+            (writer self.old) (delivered (writer self.old) cell
+            (admitted_kinds (history_in (get_or (writer self.old).seen cell [])) (kinds_of step)))
+            cell (length
+            (admitted_kinds (history_in (get_or (writer self.old).seen cell [])) (kinds_of step)))
+            (writer self.new)) }
+        ensures shard_full { IsErrOf result StepRefusal.ShardFull
             → is_over (layout self.old).limit (history_in (get_or (writer self.old).seen cell []))
             (admitted_kinds (history_in (get_or (writer self.old).seen cell [])) (kinds_of step))
             ≡ true }
@@ -191,17 +206,21 @@ pub trait Turns {
         ensures { result
             ≡ raises key.now (book_seen (layout self.now) (writer self.now)) upto.now };
 
-    /// Adds the writer's entry right behind what it has seen of the book. The room for looks stays.
-    fn append_entry(&mut self, entry: BookEntry) -> Result<(), BookFault>
+    /// Adds the writer's entry right behind what it has seen of the book. Where the append to the
+    /// book's log fails, the entry stands or it doesn't. The room for looks stays.
+    fn append_entry(&mut self, entry: BookEntry) -> Result<(), EntryRefusal>
         requires holds { holds self.old (book_cell (layout self.old).names) }
         requires allowed { MayAppendEntry (layout self.old).names (writer self.old).me
             (writer self.old).seen entry }
         ensures ok { OnOk result (writer self.new
             ≡ made (writer self.old) (book_cell (layout self.old).names) (payload_of entry ∷ [])) }
         ensures opened { OnOk result (IsOpenTo (book_seen (layout self.old) (writer self.old)) entry) }
-        ensures err { OnErr result (writer self.new ≡ writer self.old) }
-        ensures cause { IfErr result
-            (λ fault. IsCauseOf (book_seen (layout self.old) (writer self.old)) entry fault) }
+        ensures err { IfErr result (IsUnadded
+            (IsOpenTo (book_seen (layout self.old) (writer self.old)) entry)
+            (book_seen (layout self.old) (writer self.old)) entry
+            (writer self.old)
+            (made (writer self.old) (book_cell (layout self.old).names) (payload_of entry ∷ []))
+            (book_cell (layout self.old).names) (writer self.new)) }
         ensures room { room self.new ≡ room self.old }
         ensures holds { holds self.new (book_cell (layout self.old).names) }
         ensures layout { layout self.new ≡ layout self.old }

@@ -1,10 +1,11 @@
-use Rattle.std.proofs.Common.{◌++◌, ◌∷◌, []}
+use Rattle.std.proofs.Common.{◌++◌, ◌∷◌, [], refl}
 use Rattle.exchange_rules.specs.Calls.{Completed}
 use Rattle.exchange_rules.specs.Cells.{history_in}
 use Rattle.exchange_rules.specs.Courses.{ends, looks}
 use Rattle.exchange_rules.specs.Rows.{part_of}
-use Rattle.exchange_rules.proofs.StepLemmas.{look_none, look_begun}
+use Rattle.exchange_rules.proofs.StepLemmas.{look_begun}
 use Rattle.stream_site.proofs.CutLemmas.{part_looked}
+use Rattle.stream_site.proofs.RefusalLemmas.{unseen_stopped}
 use Rattle.stream_site.proofs.TestLemmas.{handed_on}
 use Rattle.stream_site.proofs.cut.look_part_over.Goals as goal
 
@@ -15,8 +16,8 @@ returns-in_err-look-clause-course g c =
     (looks at.cell (λ log. ends
     (c.args.cut ++ part_of at.collection.now at.shard (history_in log) ∷ []))))
     _ _ c.from_residual.ensures.1
-    (look_none (g.T.Turns.writer c.args.site.now) (g.T.Turns.writer c.look.new.self) _
-    c.in_err-look.ensures.err)
+    (unseen_stopped (g.T.Turns.writer c.args.site.now) (g.T.Turns.writer c.args.site.now)
+    (g.T.Turns.writer c.look.new.self) _ at.cell _ refl c.in_err-look.ensures.err)
 
 pub returns-in_err-snapshot-clause-course : goal.returns-in_err-snapshot-clause-course
 returns-in_err-snapshot-clause-course g c =

@@ -104,3 +104,14 @@ write_over-requires-clause-fit g c =
     c.locate-at.ensures.spot
     (left_here _ _ _ _ c.loop-shard.invariant.left c.take_step-step.ensures.step)
     (c.requires.fit c.loop-shard.shard lt)
+
+pub write_over-requires-clause-few : goal.write_over-requires-clause-few
+write_over-requires-clause-few g c =
+    let lt = subst (λ n. c.loop-shard.shard < n) c.width-shard-end.ensures c.loop-shard-test.true in
+    let t = taken _ _ _ _ _ _ _ _ _ c.requires.steps c.loop-shard.invariant.reached.reached.same lt
+    c.take_step-step.ensures.step c.loop-shard.invariant.left c.loop-shard.invariant.counted
+    c.len-count.ensures in
+    let fits = t.fits in
+    let writes = t.writes in
+    let at = c.locate-at.ensures.spot.stand_is in
+    omega (arith, fits, writes, at)

@@ -1,4 +1,4 @@
-use Rattle.std.proofs.Common.{◌≡◌, ◌<◌, ◌≤◌, refl, ap, ◌∙◌, subst, arith}
+use Rattle.std.proofs.Common.{◌≡◌, ◌<◌, ◌≤◌, length, refl, ap, ◌∙◌, subst, arith}
 use Rattle.topic_book.specs.Fitness.{shards_of}
 use Rattle.exchange_rules.specs.Calls.{PassedSent, HasAppended}
 use Rattle.exchange_rules.specs.Deliveries.{send_shards}
@@ -115,3 +115,14 @@ returns-clause-few g c =
     ≡ shards_of (g.T.Turns.layout c.args.site.now).names c.args.dest.now =
     omega (arith, over, within) in
     subst (λ k. c.loop-shard.admitted ≤ length_below share k) last c.loop-shard.invariant.few
+
+pub deliver_over-requires-clause-few : goal.deliver_over-requires-clause-few
+deliver_over-requires-clause-few g c =
+    let n = shards_of (g.T.Turns.layout c.args.site.now).names c.args.dest.now in
+    let lt = subst (λ n. c.loop-shard.shard < n) c.width-shard-end.ensures c.loop-shard-test.true in
+    let is = left_here _ _ _ _ c.loop-shard.invariant.left c.take_step-step.ensures.step in
+    let fits = (sent_fits c.args.steps.now.items c.take_step-step.result n c.loop-shard.shard
+    c.loop-shard.admitted (length c.take_step-step.result) lt is c.loop-shard.invariant.few
+    (omega arith) c.requires.few).1 in
+    let at = c.locate-at.ensures.spot.stand_is in
+    omega (arith, fits, at)

@@ -1,5 +1,6 @@
-use Rattle.std.proofs.Common.{[], get_or, refl, sym, ◌∙◌}
+use Rattle.std.proofs.Common.{[], get_or, refl, sym, ap, ◌∙◌, arith}
 use Rattle.exchange_rules.specs.Cells.{history_in}
+use Rattle.exchange_rules.specs.Steps.{kinds_of, writes_in}
 use Rattle.exchange_rules.proofs.StepLemmas.{nothing_done, commit_pending_passed, commit_pending_nothing}
 use Rattle.stream_site.specs.Spots.{full_there}
 use Rattle.stream_site.proofs.MayLemmas.{may_mark}
@@ -34,3 +35,9 @@ append_over-requires-clause-allowed g c =
     may_mark (g.T.Turns.layout c.args.site.now) (g.T.Turns.writer c.args.site.now)
     c.args.at.now.cell
     c.number.result c.in-Ok.step c.requires.in_range c.number.ensures c.in-Ok.ensures
+
+pub append_over-requires-clause-few : goal.append_over-requires-clause-few
+append_over-requires-clause-few g c =
+    let none = ap (λ s. writes_in (kinds_of s)) c.in-Ok.ensures in
+    let few = c.args.at.now.counted in
+    omega (arith, none, few)

@@ -1,12 +1,12 @@
-use Rattle.std.proofs.Common.{[], get_or, subst, arith}
-use Rattle.exchange_rules.specs.Calls.{PassedSent}
+use Rattle.std.proofs.Common.{[], get_or, subst, arith, refl, sym}
+use Rattle.exchange_rules.specs.Calls.{PassedSent, Refused}
 use Rattle.exchange_rules.specs.Cells.{history_in}
 use Rattle.exchange_rules.specs.Deliveries.{admitted_kinds, send_admitted}
 use Rattle.exchange_rules.specs.Rows.{Layout}
 use Rattle.exchange_rules.specs.Steps.{kinds_of}
-use Rattle.exchange_rules.proofs.StepLemmas.{nothing_done}
 use Rattle.stream_site.specs.Spots.{full_there}
 use Rattle.stream_site.proofs.SendLemmas.{deliver_looked, deliver_none, may_deliver_after}
+use Rattle.stream_site.proofs.RefusalLemmas.{unseen_refused}
 use Rattle.stream_site.proofs.step.deliver_over.Goals as goal
 
 pub returns-then-len-eq0-clause-course : goal.returns-then-len-eq0-clause-course
@@ -39,5 +39,7 @@ returns-in-Ok-clause-course g c =
 
 pub returns-in-Err-clause-course : goal.returns-in-Err-clause-course
 returns-in-Err-clause-course g c =
-    nothing_done c.args.at.now.stand (g.T.Turns.writer c.args.site.now)
-    (g.T.Turns.writer c.look.new.self) _ c.in-Err.ensures.err
+    let w = g.T.Turns.writer c.args.site.now in
+    let new = g.T.Turns.writer c.look.new.self in
+    subst (Refused c.args.at.now.stand w new _) (sym c.unseen.ensures)
+    (unseen_refused c.args.at.now.stand w w new _ c.args.at.now.cell _ refl c.in-Err.ensures.err)

@@ -1,11 +1,12 @@
-use Rattle.std.proofs.Common.{[], get_or, subst}
-use Rattle.exchange_rules.specs.Calls.{Passed}
+use Rattle.std.proofs.Common.{[], get_or, subst, refl, sym}
+use Rattle.exchange_rules.specs.Calls.{Passed, Refused}
 use Rattle.exchange_rules.specs.Cells.{history_in}
 use Rattle.exchange_rules.specs.Rows.{Layout}
 use Rattle.exchange_rules.specs.Steps.{fitting, kinds_of, writes_in}
-use Rattle.exchange_rules.proofs.StepLemmas.{look_passed, nothing_done}
+use Rattle.exchange_rules.proofs.StepLemmas.{look_passed}
 use Rattle.stream_site.specs.Spots.{full_there}
 use Rattle.stream_site.proofs.MayLemmas.{may_after}
+use Rattle.stream_site.proofs.RefusalLemmas.{unseen_refused}
 use Rattle.stream_site.proofs.step.step_over.Goals as goal
 
 pub returns-in-Ok-clause-course : goal.returns-in-Ok-clause-course
@@ -24,8 +25,10 @@ returns-in-Ok-clause-course g c =
 
 pub returns-in-Err-clause-course : goal.returns-in-Err-clause-course
 returns-in-Err-clause-course g c =
-    nothing_done c.args.at.now.stand (g.T.Turns.writer c.args.site.now)
-    (g.T.Turns.writer c.look.new.self) _ c.in-Err.ensures.err
+    let w = g.T.Turns.writer c.args.site.now in
+    let new = g.T.Turns.writer c.look.new.self in
+    subst (Refused c.args.at.now.stand w new _) (sym c.unseen.ensures)
+    (unseen_refused c.args.at.now.stand w w new _ c.args.at.now.cell _ refl c.in-Err.ensures.err)
 
 pub append_over-requires-clause-allowed : goal.append_over-requires-clause-allowed
 append_over-requires-clause-allowed g c =

@@ -46,3 +46,11 @@ pub step_over-requires-clause-filled : goal.step_over-requires-clause-filled
 step_over-requires-clause-filled g c =
     filled_closed c.number.result c.args.commit c.args.step c.in-Ok.step
     (omega (arith, c.len.ensures)) c.in-Ok.ensures
+
+pub step_over-requires-clause-few : goal.step_over-requires-clause-few
+step_over-requires-clause-few g c =
+    let lt : 0 < length c.args.step = omega (arith, c.len.ensures) in
+    let writes = (is_closed (g.T.Turns.writer c.args.site.now).me c.number.result c.args.commit
+    c.args.step c.in-Ok.step lt c.requires.own c.number.ensures c.in-Ok.ensures).writes in
+    let few = c.requires.few in
+    omega (arith, few, writes)

@@ -1,8 +1,10 @@
-use Rattle.std.proofs.Common.{refl}
+use Rattle.std.proofs.Common.{refl, ap, ◌∙◌}
 use Rattle.exchange_rules.specs.Bindings.{bind_new, book_seen}
 use Rattle.exchange_rules.specs.Calls.{Passed}
 use Rattle.exchange_rules.proofs.StepLemmas.{nothing_done}
-use Rattle.stream_site.proofs.TopicLemmas.{bound_refused, bound_appended, bound_stopped, may_bind}
+use Rattle.stream_site.specs.Refusals.{unadded}
+use Rattle.stream_site.proofs.BookLemmas.{bind_unadded}
+use Rattle.stream_site.proofs.TopicLemmas.{bound_appended, bound_stopped, may_bind}
 use Rattle.stream_site.proofs.TestLemmas.{handed_on}
 use Rattle.stream_site.proofs.topics.bind_new_over.Goals as goal
 
@@ -22,12 +24,12 @@ append_entry-requires-clause-allowed g c =
 
 pub returns-in-Err-clause-course : goal.returns-in-Err-clause-course
 returns-in-Err-clause-course g c =
-    bound_refused (g.T.Turns.writer c.args.site.now) (g.T.Turns.writer c.append_entry.new.self)
-    (g.T.Turns.layout c.args.site.now).names c.number-by.result c.args.key.now c.in_ok-copy.copy
-    c.args.binding
-    (book_seen (g.T.Turns.layout c.args.site.now) (g.T.Turns.writer c.args.site.now))
-    c.in-Err.fault c.fault_of.result c.in_ok-copy.ensures c.requires.unbound c.in-Err.ensures.err
-    c.in-Err.ensures.cause c.fault_of.ensures
+    bind_unadded (g.T.Turns.writer c.args.site.now) (g.T.Turns.writer c.append_entry.new.self)
+    (g.T.Turns.layout c.args.site.now) (g.T.Turns.layout c.append_entry.new.self)
+    c.number-by.result c.args.key.now c.in_ok-copy.copy c.args.binding c.in-Err.refusal
+    c.unadded.result c.in-Err.ensures.layout c.requires.in_range c.in_ok-copy.ensures
+    c.requires.unbound c.in-Err.ensures.err
+    (c.unadded.ensures ∙ ap (λ n. unadded n c.in-Err.refusal) c.find_book.ensures.cell)
 
 pub returns-clause-course : goal.returns-clause-course
 returns-clause-course g c =

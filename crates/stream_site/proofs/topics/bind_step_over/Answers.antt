@@ -5,6 +5,7 @@ use Rattle.exchange_rules.specs.Bindings.{bind_course, bind_seen, book_cell, boo
 use Rattle.exchange_rules.specs.Calls.{Answered, Passed}
 use Rattle.exchange_rules.specs.Rows.{Layout}
 use Rattle.exchange_rules.proofs.StepLemmas.{nothing_done}
+use Rattle.stream_site.proofs.RefusalLemmas.{unseen_refused}
 use Rattle.stream_site.proofs.TestLemmas.{handed_on}
 use Rattle.stream_site.proofs.TopicLemmas.{book_in_range, book_looked}
 use Rattle.stream_site.proofs.topics.bind_step_over.Goals as goal
@@ -59,7 +60,8 @@ returns-in_err-look-clause-course g c =
     let new = g.T.Turns.writer c.look.new.self in
     handed_on (Answered w new (bind_course l.names c.args.key.now c.args.binding)) _ _
     c.from_residual-in_err-look.ensures.1
-    (nothing_done 0 w new _ (c.in_err-look.ensures.err ∙ c.make_room.ensures.writer))
+    (unseen_refused 0 w (g.T.Turns.writer c.make_room.new.self) new _ c.find_book-book.result _
+    c.make_room.ensures.writer c.in_err-look.ensures.err)
 
 pub bind_seen_over-requires-clause-on : goal.bind_seen_over-requires-clause-on
 bind_seen_over-requires-clause-on g c =

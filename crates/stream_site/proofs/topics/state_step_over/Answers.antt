@@ -3,6 +3,7 @@ use Rattle.exchange_rules.specs.Bindings.{book_cell, topic_state_course}
 use Rattle.exchange_rules.specs.Calls.{Completed}
 use Rattle.exchange_rules.specs.Rows.{Layout}
 use Rattle.exchange_rules.proofs.StepLemmas.{look_none}
+use Rattle.stream_site.proofs.RefusalLemmas.{unseen_stopped}
 use Rattle.stream_site.proofs.TestLemmas.{handed_on}
 use Rattle.stream_site.proofs.TopicLemmas.{state_begun, state_looked}
 use Rattle.stream_site.proofs.topics.state_step_over.Goals as goal
@@ -23,7 +24,8 @@ returns-in_err-look-clause-course g c =
     let new = g.T.Turns.writer c.look.new.self in
     handed_on (Completed w new (topic_state_course l.names c.args.key.now)) _ _
     c.from_residual-in_err-look.ensures.1
-    (look_none w new _ (c.in_err-look.ensures.err ∙ c.make_room.ensures.writer))
+    (unseen_stopped w (g.T.Turns.writer c.make_room.new.self) new _ c.find_book-book.result _
+    c.make_room.ensures.writer c.in_err-look.ensures.err)
 
 pub state_seen_over-requires : goal.state_seen_over-requires
 state_seen_over-requires g c =

@@ -3,6 +3,7 @@ use Rattle.exchange_rules.specs.Bindings.{book_cell, book_seen, store_course, st
 use Rattle.exchange_rules.specs.Calls.{Answered, Passed}
 use Rattle.exchange_rules.specs.Rows.{Layout}
 use Rattle.exchange_rules.proofs.StepLemmas.{nothing_done}
+use Rattle.stream_site.proofs.RefusalLemmas.{unseen_refused}
 use Rattle.stream_site.proofs.TestLemmas.{handed_on}
 use Rattle.stream_site.proofs.TopicLemmas.{book_in_range, book_looked, store_after_look}
 use Rattle.stream_site.proofs.topics.store_step_over.Goals as goal
@@ -54,7 +55,8 @@ returns-in_err-look-clause-course g c =
     let new = g.T.Turns.writer c.look.new.self in
     handed_on (Answered w new (store_course l.names c.args.key.now c.args.upto)) _ _
     c.from_residual-in_err-look.ensures.1
-    (nothing_done 0 w new _ (c.in_err-look.ensures.err ∙ c.make_room.ensures.writer))
+    (unseen_refused 0 w (g.T.Turns.writer c.make_room.new.self) new _ c.find_book-book.result _
+    c.make_room.ensures.writer c.in_err-look.ensures.err)
 
 pub store_seen_over-requires-clause-delivered : goal.store_seen_over-requires-clause-delivered
 store_seen_over-requires-clause-delivered g c =

@@ -8,7 +8,7 @@ use Rattle.stream_site.proofs.TestLemmas.{iff_never, ok_is_no_err}
 use Rattle.turn_table.specs.Calls.{known}
 use Rattle.turn_table.specs.Histories.{at}
 use Rattle.running_site.specs.Seals.{IsFull}
-use Rattle.running_site.proofs.AppendLemmas.{step-is-shard, step-tells}
+use Rattle.running_site.proofs.AppendLemmas.{step-is-shard, step-tells, step-whole}
 use Rattle.running_site.proofs.SealLemmas.{sealed-made, step-signed}
 use Rattle.running_site.proofs.visit.Visit.append_step.Goals as goal
 
@@ -27,8 +27,8 @@ returns-in-Ok-clause-ok g c =
 pub returns-in-Ok-clause-shard_full : goal.returns-in-Ok-clause-shard_full
 returns-in-Ok-clause-shard_full g c = iff_never (ok_is_no_err _ _) c.in-Ok.ensures.fits
 
-pub shard_fault-requires : goal.shard_fault-requires
-shard_fault-requires g c =
+pub step_refusal-requires : goal.step_refusal-requires
+step_refusal-requires g c =
     let v = c.args.self.now in
     step-is-shard
     (IsFull v.site.now.limit (history_in (at (known v.pass).seen c.args.cell)) c.args.step)
@@ -39,4 +39,8 @@ returns-in-Err-clause-shard_full g c =
     let v = c.args.self.now in
     step-tells
     (IsFull v.site.now.limit (history_in (at (known v.pass).seen c.args.cell)) c.args.step)
-    c.in-Err.refusal c.shard_fault.result c.shard_fault.ensures c.in-Err.ensures.cause
+    c.in-Err.refusal c.step_refusal.result c.step_refusal.ensures c.in-Err.ensures.cause
+
+pub returns-in-Err-clause-whole : goal.returns-in-Err-clause-whole
+returns-in-Err-clause-whole g c =
+    step-whole c.in-Err.refusal c.step_refusal.result c.step_refusal.ensures

@@ -9,7 +9,7 @@ use Rattle.turn_table.specs.Histories.{at}
 use Rattle.running_site.specs.Passes.{writer_in}
 use Rattle.running_site.specs.Visits.{HasTurn}
 use Rattle.running_site.proofs.AppendLemmas.{entry-cause, entry-is-book}
-use Rattle.running_site.proofs.SealLemmas.{entry-signed, sealed-made}
+use Rattle.running_site.proofs.SealLemmas.{entry-signed, sealed-made, writer-same}
 use Rattle.running_site.proofs.writing.VisitTurns.append_entry.Goals as goal
 
 pub append-requires-clause-holds : goal.append-requires-clause-holds
@@ -60,15 +60,22 @@ book_fault-requires g c =
     entry-is-book (book_in (at (known v.pass).seen (c.cells-cell.result - 1))) c.args.entry
     c.in-Err.refusal c.in-Err.ensures.cause
 
-pub returns-in-Err-clause-cause : goal.returns-in-Err-clause-cause
-returns-in-Err-clause-cause g c =
+pub returns-in-Err-clause-err : goal.returns-in-Err-clause-err
+returns-in-Err-clause-err g c =
     let v = c.args.self.now in
+    let w = c.append.new.self in
     let sized = v.site.now.sized in
     let at_book : c.cells-cell.result - 1 ≡ cells_in v.site.now.names =
     omega (arith, c.cells-cell.ensures, sized) in
-    subst (λ n. IsCauseOf (book_in (at (known v.pass).seen n)) c.args.entry c.book_fault.result)
-    at_book
-    (subst (IsCauseOf (book_in (at (known v.pass).seen (c.cells-cell.result - 1))) c.args.entry)
-    (sym c.book_fault.ensures)
-    (entry-cause (book_in (at (known v.pass).seen (c.cells-cell.result - 1))) c.args.entry
-    c.in-Err.refusal c.in-Err.ensures.cause))
+    let same : writer_in (known w.pass) w.marks.items w.own.items
+    ≡ writer_in (known v.pass) v.marks.items v.own.items =
+    writer-same (known v.pass) (known w.pass) v.marks.items w.marks.items v.own.items w.own.items
+    c.in-Err.ensures.err.0 (ap vec_items c.append.ensures.marks) c.in-Err.ensures.err.1 in (
+      subst (λ n. IsCauseOf (book_in (at (known v.pass).seen n)) c.args.entry c.book_fault.result)
+          at_book
+          (subst (IsCauseOf (book_in (at (known v.pass).seen (c.cells-cell.result - 1)))
+          c.args.entry) (sym c.book_fault.ensures)
+          (entry-cause (book_in (at (known v.pass).seen (c.cells-cell.result - 1))) c.args.entry
+          c.in-Err.refusal c.in-Err.ensures.cause)),
+      same,
+    )

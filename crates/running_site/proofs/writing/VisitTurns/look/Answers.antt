@@ -74,7 +74,7 @@ returns-clause-ok g c =
     ≡ v.marks.items ++ record { cell = c.args.cell; upto = c.len-upto.result } ∷ [] =
     c.push_reserved.ensures.items
     ∙ ap (λ l. l ++ record { cell = c.args.cell; upto = c.len-upto.result } ∷ [])
-    c.in_ok-reserve.ensures.items in
+    c.in-Ok.ensures.items in
     subst (λ (w : Writer). LooksAt w
     (writer_in (known c.look.new.pass) c.push_reserved.new.self.items v.own.items) c.args.cell) same
     (looked-writer k (known c.turn.new.pass) (known c.look.new.pass) c.args.cell took.0 t
