@@ -114,5 +114,6 @@ reaches_on before new p q r = record {
   marks = ap (λ marks. before.marks ++ marks) r.marks;
   own = ap (λ own. before.own ++ own) r.own;
   looked = r.looked;
+  faults = r.faults;
   followed = r.followed;
 }

@@ -8,7 +8,7 @@ use Rattle.exchange_rules.specs.Following.{Begins, Writer, cleared}
 use Rattle.exchange_rules.specs.Rows.{Layout}
 use Rattle.exchange_rules.specs.declared.fault.SiteFault.{SiteFault}
 use Rattle.exchange_rules.specs.declared.fault.SiteFault.TheVariants.{ShardFull, TopicBound}
-use Rattle.exchange_rules.specs.declared.fault.SiteFault.TheVariants.{BookFull, OutOfMemory}
+use Rattle.exchange_rules.specs.declared.fault.SiteFault.TheVariants.{BookFull, CellClosed, LogFault, OutOfMemory}
 use Rattle.exchange_rules.specs.declared.run.TopicFault.{TopicFault}
 use Rattle.daemon_steps.specs.Runs.{IsFollowed}
 use Rattle.daemon_steps.specs.declared.once.Once.{Once}
@@ -39,6 +39,8 @@ ended-same-at : {A : Type 0} (old new : Writer) (p : Course (Result A SiteFault)
 ended-same-at old new p (ShardFull collection shard stand) d = d.same
 ended-same-at old new p (TopicBound kept) d = d.same
 ended-same-at old new p (BookFull topics) d = d.same
+ended-same-at old new p (LogFault cell stand) d = d.0.1.same
+ended-same-at old new p (CellClosed cell stand) d = d.0.1.same
 ended-same-at old new p (OutOfMemory stand) d = d.1.same
 
 -- a call of several others
@@ -52,6 +54,8 @@ stopped-same : {A : Type 0} (old new : Writer) (p : Course (Result A TopicFault)
 stopped-same old new p stopped (ShardFull collection shard stand) d = d.same
 stopped-same old new p stopped (TopicBound kept) d = d.same
 stopped-same old new p stopped (BookFull topics) d = d.same
+stopped-same old new p stopped (LogFault cell stand) d = d.0.stood.reached.same
+stopped-same old new p stopped (CellClosed cell stand) d = d.0.stood.reached.same
 stopped-same old new p stopped (OutOfMemory stand) d = d.stood.reached.same
 
 -- the run of a topic

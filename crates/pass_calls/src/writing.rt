@@ -1,5 +1,5 @@
 // Updates, commits and topics.
-ghost use Rattle.std.specs.Prelude.{◌≡◌, ◌<◌, IfOk, None, OnErr, Some};
+ghost use Rattle.std.specs.Prelude.{◌≡◌, ◌<◌, IfErr, IfOk, None, Some};
 ghost use Rattle.topic_book.specs.Fitness.{shards_of};
 ghost use Rattle.exchange_rules.specs.Updates.{commit_round_course, tuples_course};
 ghost use Rattle.exchange_rules.specs.Calls.{Answered, Carried, Ended};
@@ -8,7 +8,7 @@ ghost use Rattle.expr_check.specs.Roots.{topic_parts, IsTopicOf};
 ghost use Rattle.expr_check.specs.Views.{tree_of};
 ghost use Rattle.running_site.specs.Passes.{number_of, writer_of};
 ghost use Rattle.running_site.specs.Sites.{layout_at, IsPassAt};
-ghost use Rattle.update_sink.specs.Promises.{HasDelivered, HasStood, IsKept, IsRunAlone, IsUnstored, stand_of};
+ghost use Rattle.update_sink.specs.Promises.{HasDelivered, HasStood, IsKept, IsRunAlone, IsUnstoredBy, stand_of};
 ghost use Rattle.update_sink.specs.Runs.{IsRun};
 ghost use Rattle.update_sink.specs.Topics.{asked_of, batches_over, key_of, read_of, run_of, sink_of};
 ghost use Rattle.update_sink.specs.Topics.{IsCheckedDelivery, IsSinkThere, IsThere};
@@ -98,7 +98,8 @@ pub fn run_topic<R: Wait, G: Gate>(
         (sink_of delivery.now)) }
     ensures alone { IsRunAlone (key_of (sink_of delivery.now).topic)
         (sink_of delivery.now).topic.collection (writer_of pass.old) (writer_of pass.new) }
-    ensures unstored { OnErr result (IsUnstored (writer_of pass.old) (writer_of pass.new)) }
+    ensures unstored { IfErr result (λ stop. IsUnstoredBy site.now.names (writer_of pass.old)
+        (writer_of pass.new) stop.fault) }
     ensures stood { HasStood (writer_of pass.old) (writer_of pass.new) (stand_of result) }
 {
     let mut visit = site.visit(rt, pass);

@@ -1,11 +1,11 @@
 -- How what is carried out in parts is carried out whole.
-use Rattle.std.proofs.Common.{◌≡◌, sym, ap, subst, ◌∙◌}
+use Rattle.std.proofs.Common.{◌≡◌, ℕ, sym, ap, subst, ◌∙◌}
 use Rattle.std.specs.Prelude.{Result, Ok, Err, IfOk}
-use Rattle.exchange_rules.specs.Calls.{Answered, Carried, Ended, Stopped}
+use Rattle.exchange_rules.specs.Calls.{Answered, Carried, Ended, IsStopped, Stopped}
 use Rattle.exchange_rules.specs.Courses.{Course, ends, and_then}
 use Rattle.exchange_rules.specs.Following.{Writer, Reaches, Answers, Begins}
 use Rattle.exchange_rules.specs.declared.fault.SiteFault.{SiteFault}
-use Rattle.exchange_rules.specs.declared.fault.SiteFault.TheVariants.{ShardFull, TopicBound, BookFull, OutOfMemory}
+use Rattle.exchange_rules.specs.declared.fault.SiteFault.TheVariants.{ShardFull, TopicBound, BookFull, LogFault, CellClosed, OutOfMemory}
 use Rattle.exchange_rules.specs.declared.run.TopicFault.{TopicFault}
 use Rattle.tuple_values.specs.declared.memory.Memory.{Memory}
 use Rattle.update_sink.specs.Runs.{IsStoppedBy}
@@ -20,14 +20,22 @@ nothing_done w p = (p, reaches_none w p)
 pub nothing_asked : {A : Type 0} (w : Writer) (a : A) → Answers w w (ends a) a
 nothing_asked w a = reaches_none w (ends a)
 
--- a first part that stopped is a beginning
+-- a first part that stopped before its end is a beginning
+first_halted : {A B : Type 0} (before : ℕ) (old new : Writer) (p : Course A)
+    (next : A → Course B) (stand : ℕ) → IsStopped before old new p stand
+    → Begins old new (and_then p next)
+first_halted before old new p next stand s =
+    (and_then s.rest next, reaches_then old new p s.rest next s.stood.reached)
+
+-- so is one that was refused for that
 pub first_stopped : {A B : Type 0} (old new : Writer) (p : Course A) (next : A → Course B)
     (fault : SiteFault) → Stopped old new p fault → Begins old new (and_then p next)
 first_stopped old new p next (ShardFull collection shard stand) s = absurd s
 first_stopped old new p next (TopicBound kept) s = absurd s
 first_stopped old new p next (BookFull topics) s = absurd s
-first_stopped old new p next (OutOfMemory stand) s =
-    (and_then s.rest next, reaches_then old new p s.rest next s.stood.reached)
+first_stopped old new p next (LogFault cell stand) s = absurd s
+first_stopped old new p next (CellClosed cell stand) s = first_halted 0 old new p next stand s.0
+first_stopped old new p next (OutOfMemory stand) s = first_halted 0 old new p next stand s
 
 -- so is a beginning of a first part
 pub first_begun : {A B : Type 0} (old new : Writer) (p : Course A) (next : A → Course B)
@@ -95,6 +103,8 @@ pub told_of : {P Q : Type 0} (fault : SiteFault) → (P → Q) → Told fault P 
 told_of (ShardFull collection shard stand) f p = f p
 told_of (TopicBound kept) f p = f p
 told_of (BookFull topics) f p = f p
+told_of (LogFault cell stand) f p = absurd p
+told_of (CellClosed cell stand) f p = absurd p
 told_of (OutOfMemory stand) f p = absurd p
 
 -- what is told of one
@@ -102,6 +112,8 @@ pub told_is : {A : Type 0} (fault : SiteFault) (a b : A) → Told fault (a ≡ b
 told_is (ShardFull collection shard stand) a b is = is
 told_is (TopicBound kept) a b is = is
 told_is (BookFull topics) a b is = is
+told_is (LogFault cell stand) a b is = absurd is
+told_is (CellClosed cell stand) a b is = absurd is
 told_is (OutOfMemory stand) a b is = absurd is
 
 -- a call of a site that was refused, and what is told of that
@@ -121,9 +133,15 @@ refused_with old new p next b (BookFull topics) (Ok x) s e is =
     first_answered old new p next (Err (BookFull topics)) x (e ∙ ap ends (sym is)) s
 refused_with old new p next b (BookFull topics) (Err memory) s e is =
     first_done old new p next (Err (BookFull topics)) s
+refused_with old new p next b (LogFault cell stand) (Ok x) s e is = absurd is
+refused_with old new p next b (LogFault cell stand) (Err memory) s e is =
+    first_halted 0 old new p next stand s.0
+refused_with old new p next b (CellClosed cell stand) (Ok x) s e is = absurd is
+refused_with old new p next b (CellClosed cell stand) (Err memory) s e is =
+    first_halted 0 old new p next stand s.0
 refused_with old new p next b (OutOfMemory stand) (Ok x) s e is = absurd is
 refused_with old new p next b (OutOfMemory stand) (Err memory) s e is =
-    (and_then s.rest next, reaches_then old new p s.rest next s.stood.reached)
+    first_halted 0 old new p next stand s
 
 -- the same of a call of several others
 pub ended_with : {A B : Type 0} (old new : Writer) (p : Course (Result A SiteFault))
@@ -142,6 +160,12 @@ ended_with old new p next b (BookFull topics) (Ok x) s e is =
     first_answered old new p next (Err (BookFull topics)) x (e ∙ ap ends (sym is)) s
 ended_with old new p next b (BookFull topics) (Err memory) s e is =
     first_done old new p next (Err (BookFull topics)) s
+ended_with old new p next b (LogFault cell stand) (Ok x) s e is = absurd is
+ended_with old new p next b (LogFault cell stand) (Err memory) s e is =
+    first_begun old new p next s.0
+ended_with old new p next b (CellClosed cell stand) (Ok x) s e is = absurd is
+ended_with old new p next b (CellClosed cell stand) (Err memory) s e is =
+    first_begun old new p next s.0
 ended_with old new p next b (OutOfMemory stand) (Ok x) s e is = absurd is
 ended_with old new p next b (OutOfMemory stand) (Err memory) s e is =
     first_begun old new p next s
@@ -163,6 +187,12 @@ stopped_with old new p next b stop (BookFull topics) (Ok x) s e is =
     first_answered old new p next (Err stop) x (e ∙ ap ends (sym is)) s
 stopped_with old new p next b stop (BookFull topics) (Err memory) s e is =
     first_done old new p next (Err stop) s
+stopped_with old new p next b stop (LogFault cell stand) (Ok x) s e is = absurd is
+stopped_with old new p next b stop (LogFault cell stand) (Err memory) s e is =
+    first_halted 0 old new p next stop.stand s.0
+stopped_with old new p next b stop (CellClosed cell stand) (Ok x) s e is = absurd is
+stopped_with old new p next b stop (CellClosed cell stand) (Err memory) s e is =
+    first_halted 0 old new p next stop.stand s.0
 stopped_with old new p next b stop (OutOfMemory stand) (Ok x) s e is = absurd is
 stopped_with old new p next b stop (OutOfMemory stand) (Err memory) s e is =
-    first_begun old new p next (s.rest, s.stood.reached)
+    first_halted 0 old new p next stop.stand s

@@ -20,7 +20,7 @@ pub fn full_text(alloc: Global, collection: &Text, shard: u16, stand: u64) -> Re
 }
 
 /// What is told of a refusal of the site, when so many writes of the request stand. Want of memory
-/// stays.
+/// stays. No site has logs yet: a log's fault ends it as want of memory does.
 pub(crate) fn site_told(alloc: Global, stand: u64, fault: &SiteFault) -> Result<Text, Memory>
     ensures { IfOk result (λ text. Told fault.now (text ≡ site_told stand fault.now)) }
 {
@@ -32,7 +32,8 @@ pub(crate) fn site_told(alloc: Global, stand: u64, fault: &SiteFault) -> Result<
         } => full_text(alloc, collection, *shard, stand),
         SiteFault::TopicBound { .. } => Text::of(alloc, "TopicBound"),
         SiteFault::BookFull { .. } => Text::of(alloc, "BookFull 1000"),
-        SiteFault::OutOfMemory { .. } => Err(Memory::OutOfMemory),
+        SiteFault::LogFault { .. } | SiteFault::CellClosed { .. } | SiteFault::OutOfMemory { .. } =>
+            Err(Memory::OutOfMemory),
     }
 }
 
@@ -77,7 +78,7 @@ fn bound_text(alloc: Global, topic: &TopicRoot<'_>, kept: &Binding) -> Result<Te
 }
 
 /// What is told of a refusal of the site in the run of a topic, when so many writes of the request
-/// stand. Want of memory stays.
+/// stand. Want of memory stays, and a log's fault as above.
 pub(crate) fn topic_told(
     alloc: Global,
     topic: &TopicRoot<'_>,
@@ -95,6 +96,7 @@ pub(crate) fn topic_told(
         } => full_text(alloc, collection, *shard, stand),
         SiteFault::TopicBound { kept } => bound_text(alloc, topic, kept),
         SiteFault::BookFull { .. } => Text::of(alloc, "BookFull 1000"),
-        SiteFault::OutOfMemory { .. } => Err(Memory::OutOfMemory),
+        SiteFault::LogFault { .. } | SiteFault::CellClosed { .. } | SiteFault::OutOfMemory { .. } =>
+            Err(Memory::OutOfMemory),
     }
 }

@@ -3,13 +3,14 @@ use Rattle.std.proofs.Common.{◌≡◌, ℕ, suc, ◌<◌, ◌≤◌, ◌+◌, 
 use Rattle.std.specs.Prelude.{if◌then◌else◌}
 use Rattle.std.proofs.lemmas.List.{at_drop_more, at_drop_all}
 use Rattle.tuple_values.specs.Document.{ByteList, Doc}
-use Rattle.exchange_rules.specs.Calls.{Answered, Ended, IsEnded}
+use Rattle.exchange_rules.specs.Calls.{Answered, Ended, IsEnded, IsStopped}
 use Rattle.exchange_rules.specs.Courses.{Course, ends, and_then, unless_refused}
-use Rattle.exchange_rules.specs.Following.{Writer, Reaches, Answers}
+use Rattle.exchange_rules.specs.Following.{Writer, Reaches, Answers, Begins}
 use Rattle.exchange_rules.specs.Rows.{Layout, commit_course}
 use Rattle.exchange_rules.specs.Updates.{commits_before, commits_course, is_reached, weight}
 use Rattle.exchange_rules.specs.declared.fault.SiteFault.{SiteFault}
-use Rattle.exchange_rules.specs.declared.fault.SiteFault.TheVariants.{ShardFull, TopicBound, BookFull, OutOfMemory}
+use Rattle.exchange_rules.specs.declared.fault.SiteFault.TheVariants.{ShardFull, TopicBound, BookFull, LogFault, CellClosed, OutOfMemory}
+use Rattle.exchange_rules.proofs.AppendedLemmas.{broken_on, barred_on}
 use Rattle.exchange_rules.proofs.ReachLemmas.{reaches_join, reaches_then}
 
 -- the commits of the tuples that are left, after so many before them, and the one at the end
@@ -47,7 +48,18 @@ module _ (start old new : Writer) (course : Course (Result (Unit {0}) SiteFault)
       reaches_join start old new course (commits_course here dest (suc n)) (ends (Err fault)) r
       (reaches_then old new (commit_course here dest) (ends (Err fault)) (goes_on n) a)
 
-  -- or memory was wanting in it
+  -- or it stopped
+  ended : (n stand : ℕ) → Reaches start old course (commits_course here dest (suc n))
+      → IsStopped 0 old new (commit_course here dest) stand → Begins start new course
+  ended n stand r stopped =
+      let rest = and_then stopped.rest (goes_on n) in (
+        rest,
+        reaches_join start old new course (commits_course here dest (suc n)) rest r
+            (reaches_then old new (commit_course here dest) stopped.rest (goes_on n)
+            stopped.stood.reached),
+      )
+
+  -- whatever it was refused for
   pub commit_ended : (n : ℕ) (fault : SiteFault)
       → Reaches start old course (commits_course here dest (suc n))
       → Answered old new (commit_course there dest) (Err fault)
@@ -59,14 +71,17 @@ module _ (start old new : Writer) (course : Course (Result (Unit {0}) SiteFault)
       refused n (TopicBound kept) r (moved (Err (TopicBound kept)) a)
   commit_ended n (BookFull topics) r a =
       refused n (BookFull topics) r (moved (Err (BookFull topics)) a)
-  commit_ended n (OutOfMemory stand) r a =
-      let stopped = moved (Err (OutOfMemory stand)) a in
-      let rest = and_then stopped.rest (goes_on n) in (
-        rest,
-        reaches_join start old new course (commits_course here dest (suc n)) rest r
-            (reaches_then old new (commit_course here dest) stopped.rest (goes_on n)
-            stopped.stood.reached),
+  commit_ended n (LogFault cell stand) r a =
+      let stopped = moved (Err (LogFault cell stand)) a in (
+        ended n stand r stopped.0,
+        broken_on start old new course (commits_course here dest (suc n)) cell r stopped.1,
       )
+  commit_ended n (CellClosed cell stand) r a =
+      let stopped = moved (Err (CellClosed cell stand)) a in (
+        ended n stand r stopped.0,
+        barred_on start old new course (commits_course here dest (suc n)) cell r stopped.1,
+      )
+  commit_ended n (OutOfMemory stand) r a = ended n stand r (moved (Err (OutOfMemory stand)) a)
 
 -- the commits that are left, where the next tuple reaches so many
 pub left_reached : (size : Option ℕ) (before count : ℕ) (summaries : Bool) (docs : List Doc)

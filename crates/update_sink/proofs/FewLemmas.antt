@@ -9,7 +9,7 @@ use Rattle.topic_book.specs.Cells.{cell_of}
 use Rattle.topic_book.specs.Fitness.{shards_of}
 use Rattle.exchange_rules.specs.Accesses.{at_owns, own_of}
 use Rattle.exchange_rules.specs.Batches.{stand_in}
-use Rattle.exchange_rules.specs.Calls.{Answered, is_write}
+use Rattle.exchange_rules.specs.Calls.{Answered, is_write, IsStopped}
 use Rattle.exchange_rules.specs.Cells.{history_in, write}
 use Rattle.exchange_rules.specs.Courses.{Course, ends, makes, and_then, unless_refused}
 use Rattle.exchange_rules.specs.Deliveries.{admitted_kinds, send_admitted, send_at, send_course, send_shards, send_step, sent_share}
@@ -19,7 +19,7 @@ use Rattle.exchange_rules.specs.Steps.{closed, is_full, writes_in}
 use Rattle.exchange_rules.specs.declared.batch.BatchItem.{BatchItem}
 use Rattle.exchange_rules.specs.declared.batch.Sent.{Sent}
 use Rattle.exchange_rules.specs.declared.fault.SiteFault.{SiteFault}
-use Rattle.exchange_rules.specs.declared.fault.SiteFault.TheVariants.{ShardFull, TopicBound, BookFull, OutOfMemory}
+use Rattle.exchange_rules.specs.declared.fault.SiteFault.TheVariants.{ShardFull, TopicBound, BookFull, LogFault, CellClosed, OutOfMemory}
 use Rattle.exchange_rules.proofs.DeliveryLemmas.{admitted_kinds-few, admitted_kinds-writes}
 use Rattle.source_streams.specs.declared.batch.TopicItem.{TopicItem}
 use Rattle.stream_site.proofs.SendLemmas.{sent_all}
@@ -130,18 +130,25 @@ module _ (l : Layout) (dest src : ByteList) (batch : List BatchItem)
       → Answers old new (send_course l dest src batch) (Ok sent) → sent.admitted ≤ length batch
   sent-few old new sent a = told-few old new (Ok sent) a
 
-  -- nor do more stand where it was refused, or memory was wanting
+  -- nor do more stand where it stopped
+  stopped-few : (old new : Writer) (stand : ℕ)
+      → IsStopped 0 old new (send_course l dest src batch) stand → stand ≤ length batch
+  stopped-few old new stand a =
+      let most = few old new a.rest a.stood.reached in
+      let writes = a.stood.counted in
+      let told = a.counted in
+      omega (arith, most, writes, told)
+
+  -- or was refused
   pub refused-few : (old new : Writer) (fault : SiteFault)
       → Answered old new (send_course l dest src batch) (Err fault)
       → stand_in fault ≤ length batch
   refused-few old new (ShardFull c s n) a = told-few old new (Err (ShardFull c s n)) a
   refused-few old new (TopicBound kept) a = told-few old new (Err (TopicBound kept)) a
   refused-few old new (BookFull topics) a = told-few old new (Err (BookFull topics)) a
-  refused-few old new (OutOfMemory stand) a =
-      let most = few old new a.rest a.stood.reached in
-      let writes = a.stood.counted in
-      let told = a.counted in
-      omega (arith, most, writes, told)
+  refused-few old new (LogFault cell stand) a = stopped-few old new stand a.0
+  refused-few old new (CellClosed cell stand) a = stopped-few old new stand a.0
+  refused-few old new (OutOfMemory stand) a = stopped-few old new stand a
 
 -- a batch has as many items as it is made of
 pub made-length : (src : ByteList) (items : List TopicItem) (batch : List BatchItem)

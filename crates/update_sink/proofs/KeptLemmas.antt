@@ -1,6 +1,6 @@
 -- What a run keeps of its promise, by what was done of its cut.
-use Rattle.std.proofs.Common.{◌≡◌, ℕ, List, sym, subst, Result, Ok, Err}
-use Rattle.std.specs.Prelude.{IfOk, OnErr, OnOk}
+use Rattle.std.proofs.Common.{◌≡◌, ℕ, List, sym, subst, Result, Ok, Err, ◌≢◌}
+use Rattle.std.specs.Prelude.{IfErr, IfOk, OnOk}
 use Rattle.tuple_values.specs.Document.{ByteList}
 use Rattle.shard_versions.specs.declared.cut.CutPart.{CutPart}
 use Rattle.topic_book.specs.declared.topic.TopicKey.{TopicKey}
@@ -10,7 +10,7 @@ use Rattle.exchange_rules.specs.Following.{Writer, Answers}
 use Rattle.exchange_rules.specs.Rows.{Layout}
 use Rattle.exchange_rules.specs.Topics.{Asked, begin_course, source_course, tops_of}
 use Rattle.exchange_rules.specs.declared.fault.SiteFault.{SiteFault}
-use Rattle.exchange_rules.specs.declared.fault.SiteFault.TheVariants.{ShardFull, TopicBound, BookFull, OutOfMemory}
+use Rattle.exchange_rules.specs.declared.fault.SiteFault.TheVariants.{ShardFull, TopicBound, BookFull, LogFault, CellClosed, OutOfMemory}
 use Rattle.exchange_rules.specs.declared.run.TopicFault.{TopicFault}
 use Rattle.exchange_rules.specs.declared.run.TopicRun.{TopicRun}
 use Rattle.exchange_rules.proofs.GrowthLemmas.{grows_join}
@@ -18,16 +18,53 @@ use Rattle.source_streams.specs.Batches.{topic_items}
 use Rattle.source_streams.specs.declared.batch.TopicItem.{TopicItem}
 use Rattle.update_sink.specs.Given.{AreThereNow}
 use Rattle.update_sink.specs.Promises as promised
-use Rattle.update_sink.specs.Promises.{IsKept, IsUnstored}
+use Rattle.update_sink.specs.Promises.{IsKept, IsUnstored, IsUnstoredBy}
 use Rattle.update_sink.specs.Runs.{IsRun}
 use Rattle.update_sink.specs.Sends.{IsToldOf}
 use Rattle.update_sink.specs.Topics.{Sink, key_of, run_at}
-use Rattle.update_sink.proofs.PromiseLemmas.{HasReached, begin-unstored, run-reached, source-unstored, unstored-only, unstored-then}
+use Rattle.tuple_values.specs.declared.names.NameShards.{NameShards}
+use Rattle.exchange_rules.specs.Bindings.{book_cell}
+use Rattle.stream_site.specs.Topics.{HasStoredNone}
+use Rattle.update_sink.proofs.PromiseLemmas.{HasReached, begin-unstored, run-reached, source-unstored, unstored-only, unstored-then, unstored-same}
 
--- what follows from what holds of an error holds of it
-pub on-err : {A E : Type 0} (P Q : Type 0) (r : Result A E) → (P → Q) → OnErr r P → OnErr r Q
-on-err P Q (Ok a) f p = tt
-on-err P Q (Err e) f p = f p
+-- where nothing was stored, that is so whatever the fault is
+pub unstored-by : (names : List NameShards) (old new : Writer) (fault : SiteFault)
+    → IsUnstored old new → IsUnstoredBy names old new fault
+unstored-by names old new (ShardFull c s n) u = u
+unstored-by names old new (TopicBound kept) u = u
+unstored-by names old new (BookFull topics) u = u
+unstored-by names old new (LogFault cell stand) u = λ _. u
+unstored-by names old new (CellClosed cell stand) u = u
+unstored-by names old new (OutOfMemory stand) u = u
+
+-- what was stored since an earlier time
+pub unstored-since : (names : List NameShards) (mid old new : Writer) (fault : SiteFault)
+    → (IsUnstored mid new → IsUnstored old new) → IsUnstoredBy names mid new fault
+    → IsUnstoredBy names old new fault
+unstored-since names mid old new (ShardFull c s n) f u = f u
+unstored-since names mid old new (TopicBound kept) f u = f u
+unstored-since names mid old new (BookFull topics) f u = f u
+unstored-since names mid old new (LogFault cell stand) f u = λ other. f (u other)
+unstored-since names mid old new (CellClosed cell stand) f u = f u
+unstored-since names mid old new (OutOfMemory stand) f u = f u
+
+-- the same of a run
+pub if-unstored : {A : Type 0} (names : List NameShards) (mid old new : Writer)
+    (r : Result A TopicFault) → (IsUnstored mid new → IsUnstored old new)
+    → IfErr r (λ x. IsUnstoredBy names mid new x.fault)
+    → IfErr r (λ x. IsUnstoredBy names old new x.fault)
+if-unstored names mid old new (Ok a) f u = tt
+if-unstored names mid old new (Err x) f u = unstored-since names mid old new x.fault f u
+
+-- a Store that was refused
+pub store-unstored : (names : List NameShards) (old new : Writer) (fault : SiteFault)
+    → HasStoredNone (book_cell names) old new fault → IsUnstoredBy names old new fault
+store-unstored names old new (ShardFull c s n) u = unstored-same old new u
+store-unstored names old new (TopicBound kept) u = unstored-same old new u
+store-unstored names old new (BookFull topics) u = unstored-same old new u
+store-unstored names old new (LogFault cell stand) u = λ other. absurd (other u)
+store-unstored names old new (CellClosed cell stand) u = unstored-same old new u
+store-unstored names old new (OutOfMemory stand) u = unstored-same old new u
 
 -- a call came somewhere in its course
 pub refused-reached : {A : Type 0} (old new : Writer) (course : Course (Result A SiteFault))
@@ -38,6 +75,10 @@ refused-reached old new course (TopicBound kept) a =
     record { rest = ends (Err (TopicBound kept)); reached = a }
 refused-reached old new course (BookFull topics) a =
     record { rest = ends (Err (BookFull topics)); reached = a }
+refused-reached old new course (LogFault cell stand) a =
+    record { rest = a.0.rest; reached = a.0.stood.reached }
+refused-reached old new course (CellClosed cell stand) a =
+    record { rest = a.0.rest; reached = a.0.stood.reached }
 refused-reached old new course (OutOfMemory stand) a =
     record { rest = a.rest; reached = a.stood.reached }
 
@@ -47,6 +88,9 @@ pub stopped-reached : {A : Type 0} (old new : Writer) (course : Course A) (fault
 stopped-reached old new course (ShardFull c s n) a = absurd a
 stopped-reached old new course (TopicBound kept) a = absurd a
 stopped-reached old new course (BookFull topics) a = absurd a
+stopped-reached old new course (LogFault cell stand) a = absurd a
+stopped-reached old new course (CellClosed cell stand) a =
+    record { rest = a.0.rest; reached = a.0.stood.reached }
 stopped-reached old new course (OutOfMemory stand) a =
     record { rest = a.rest; reached = a.stood.reached }
 
@@ -73,11 +117,12 @@ module _ (old mid : Writer) (l : Layout) (t : Asked) (before : List ℕ)
   pub whole-unstored : (cutting new : Writer) (l1 : Layout) (src : ByteList) (cut : List CutPart)
       (course : Course (Result TopicRun TopicFault)) (r : Result TopicRun TopicFault)
       → HasAppended mid cutting (source_course l1.names src) (ends cut) 0
-      → IsRun cutting new course r → OnErr r (IsUnstored cutting new)
-      → OnErr r (IsUnstored old new)
-  whole-unstored cutting new l1 src cut course r c run u =
+      → IsRun cutting new course r
+      → (names : List NameShards) → IfErr r (λ x. IsUnstoredBy names cutting new x.fault)
+      → IfErr r (λ x. IsUnstoredBy names old new x.fault)
+  whole-unstored cutting new l1 src cut course r c run names u =
       let h = run-reached cutting new course r run in
-      on-err (IsUnstored cutting new) (IsUnstored old new) r (λ x.
+      if-unstored names cutting old new r (λ x.
       unstored-then old mid new (begin_course l.names t) (ends (Ok before)) a
       (begin-unstored l.names t)
       (grows_join mid.seen cutting.seen new.seen c.reached.grown h.reached.grown)

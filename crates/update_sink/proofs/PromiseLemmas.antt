@@ -19,7 +19,7 @@ use Rattle.topic_book.proofs.TopicLemmas.{same_key-self}
 use Rattle.exchange_rules.specs.Accesses.{at_mark, at_owns, own_of}
 use Rattle.exchange_rules.specs.Batches.{Sunk, none_sunk}
 use Rattle.exchange_rules.specs.Bindings.{book_cell, store_course, store_seen}
-use Rattle.exchange_rules.specs.Calls.{HasAppended}
+use Rattle.exchange_rules.specs.Calls.{HasAppended, IsStopped}
 use Rattle.exchange_rules.specs.Cells.{Log, bind, book_in, signed, store}
 use Rattle.exchange_rules.specs.Courses.{Course, ends, makes, and_ok}
 use Rattle.exchange_rules.specs.Deliveries.{sent_kind}
@@ -28,7 +28,7 @@ use Rattle.exchange_rules.specs.Rows.{Layout}
 use Rattle.exchange_rules.specs.Topics.{Asked, begin_course, bound_then, cut_then_store, run_course, sends_course, source_course, stopped_by, tops_of}
 use Rattle.exchange_rules.specs.declared.batch.BatchItem.{BatchItem}
 use Rattle.exchange_rules.specs.declared.fault.SiteFault.{SiteFault}
-use Rattle.exchange_rules.specs.declared.fault.SiteFault.TheVariants.{ShardFull, TopicBound, BookFull, OutOfMemory}
+use Rattle.exchange_rules.specs.declared.fault.SiteFault.TheVariants.{ShardFull, TopicBound, BookFull, LogFault, CellClosed, OutOfMemory}
 use Rattle.exchange_rules.specs.declared.log_entry.LogEntry.{LogEntry}
 use Rattle.exchange_rules.specs.declared.log_entry.LogEntry.TheVariants as logged
 use Rattle.exchange_rules.specs.declared.run.TopicFault.{TopicFault}
@@ -60,6 +60,8 @@ stopped-run {A} old new course told r = go told.fault r
     go (ShardFull c s n) r = record { rest = ends (Err told); reached = r }
     go (TopicBound kept) r = record { rest = ends (Err told); reached = r }
     go (BookFull topics) r = record { rest = ends (Err told); reached = r }
+    go (LogFault cell stand) r = record { rest = r.0.rest; reached = r.0.stood.reached }
+    go (CellClosed cell stand) r = record { rest = r.0.rest; reached = r.0.stood.reached }
     go (OutOfMemory stand) r = record { rest = r.rest; reached = r.stood.reached }
 
 -- whatever it answers
@@ -182,14 +184,20 @@ run-stood old new l t dest batches r a = go r a
         (appended-of stand_of old new course (ends r) (stand_of r) a
         (counted-run l t dest batches) refl)
 
+    halted : (stop : TopicFault) → IsStopped 0 old new course stop.stand
+        → HasStood old new stop.stand
+    halted stop a =
+        let count = a.counted in
+        stood a.rest a.writes stop.stand (omega (arith, count)) a.stood
+
     stopped : (stop : TopicFault) (fault : SiteFault) → IsStoppedBy old new course stop fault
         → HasStood old new stop.stand
     stopped stop (ShardFull c s n) a = answered (Err stop) a
     stopped stop (TopicBound kept) a = answered (Err stop) a
     stopped stop (BookFull topics) a = answered (Err stop) a
-    stopped stop (OutOfMemory stand) a =
-        let count = a.counted in
-        stood a.rest a.writes stop.stand (omega (arith, count)) a.stood
+    stopped stop (LogFault cell stand) a = halted stop a.0
+    stopped stop (CellClosed cell stand) a = halted stop a.0
+    stopped stop (OutOfMemory stand) a = halted stop a
 
     go : (r : Result TopicRun TopicFault) → IsRun old new course r → HasStood old new (stand_of r)
     go (Ok run) a = answered (Ok run) a

@@ -18,7 +18,8 @@ use Rattle.exchange_rules.specs.Following.{Follows, Reaches, Answers, Writer, co
 use Rattle.exchange_rules.specs.Rows.{cut_course, cut_shards, part_of}
 use Rattle.exchange_rules.specs.Topics.{Asked, begin_course, binding_for, bound_then, cut_then_store, init_course, read_course, source_course, tops_of}
 use Rattle.exchange_rules.specs.declared.fault.SiteFault.{SiteFault}
-use Rattle.exchange_rules.specs.declared.fault.SiteFault.TheVariants.{ShardFull, TopicBound, BookFull, OutOfMemory}
+use Rattle.exchange_rules.specs.declared.fault.SiteFault.TheVariants.{ShardFull, TopicBound, BookFull, LogFault, CellClosed, OutOfMemory}
+use Rattle.exchange_rules.proofs.AppendedLemmas.{broken_on, barred_on}
 use Rattle.exchange_rules.proofs.ReachLemmas.{count_by-append, reaches_none, reaches_join, reaches_then}
 
 -- none of its steps has a write
@@ -180,6 +181,18 @@ went_on start old new p q next a r s =
     reaches_join start old new p (and_then q next) (next a) r
     (reaches_then old new q (ends a) next s)
 
+-- a part of a quiet course stopped
+part-quiet : {A C : Type 0} (start old new : Writer) (p : Course C) (q : Course A)
+    (next : A → Course C) (stand : ℕ) → IsQuiet p → IsQuiet q
+    → Reaches start old p (and_then q next) → IsStopped 0 old new q stand
+    → IsStopped 0 start new p stand
+part-quiet start old new p q next stand kp kq r a =
+    let none = stand-quiet old new q stand kq a in
+    subst (IsStopped 0 start new p) (sym none)
+    (stopped-quiet start new p (and_then a.rest next) kp
+    (reaches_join start old new p (and_then q next) (and_then a.rest next) r
+    (reaches_then old new q a.rest next a.stood.reached)))
+
 -- a part of a quiet course was refused, or stopped
 pub part_refused : {A B : Type 0} (start old new : Writer) (p : Course (Result B SiteFault))
     (q : Course (Result A SiteFault)) (next : Result A SiteFault → Course (Result B SiteFault))
@@ -196,12 +209,12 @@ part_refused start old new p q next (TopicBound kept) kp kq ends_so r a =
 part_refused start old new p q next (BookFull topics) kp kq ends_so r a =
     subst (Reaches start new p) (ends_so (BookFull topics))
     (went_on start old new p q next (Err (BookFull topics)) r a)
+part_refused start old new p q next (LogFault cell stand) kp kq ends_so r a =
+    (part-quiet start old new p q next stand kp kq r a.0, broken_on start old new p (and_then q next) cell r a.1)
+part_refused start old new p q next (CellClosed cell stand) kp kq ends_so r a =
+    (part-quiet start old new p q next stand kp kq r a.0, barred_on start old new p (and_then q next) cell r a.1)
 part_refused start old new p q next (OutOfMemory stand) kp kq ends_so r a =
-    let none = stand-quiet old new q stand kq a in
-    subst (IsStopped 0 start new p) (sym none)
-    (stopped-quiet start new p (and_then a.rest next) kp
-    (reaches_join start old new p (and_then q next) (and_then a.rest next) r
-    (reaches_then old new q a.rest next a.stood.reached)))
+    part-quiet start old new p q next stand kp kq r a
 
 -- a part that only looks stopped
 pub part_stopped : {A B : Type 0} (start old new : Writer) (p : Course (Result B SiteFault))
@@ -211,12 +224,20 @@ pub part_stopped : {A B : Type 0} (start old new : Writer) (p : Course (Result B
 part_stopped start old new p q next (ShardFull c s n) kp kq r a = absurd a
 part_stopped start old new p q next (TopicBound kept) kp kq r a = absurd a
 part_stopped start old new p q next (BookFull topics) kp kq r a = absurd a
+part_stopped start old new p q next (LogFault cell stand) kp kq r a = absurd a
+part_stopped start old new p q next (CellClosed cell stand) kp kq r a =
+    (part-quiet start old new p q next stand kp kq r a.0, barred_on start old new p (and_then q next) cell r a.1)
 part_stopped start old new p q next (OutOfMemory stand) kp kq r a =
+    part-quiet start old new p q next stand kp kq r a
+
+-- so did its last part
+last-quiet : {A : Type 0} (start old new : Writer) (p q : Course A) (stand : ℕ) → IsQuiet p
+    → IsQuiet q → Reaches start old p q → IsStopped 0 old new q stand
+    → IsStopped 0 start new p stand
+last-quiet start old new p q stand kp kq r a =
     let none = stand-quiet old new q stand kq a in
     subst (IsStopped 0 start new p) (sym none)
-    (stopped-quiet start new p (and_then a.rest next) kp
-    (reaches_join start old new p (and_then q next) (and_then a.rest next) r
-    (reaches_then old new q a.rest next a.stood.reached)))
+    (stopped-quiet start new p a.rest kp (reaches_join start old new p q a.rest r a.stood.reached))
 
 -- the last part of a quiet course is answered as the course
 pub answered_on : {A : Type 0} (start old new : Writer) (p q : Course (Result A SiteFault))
@@ -229,10 +250,12 @@ answered_on start old new p q (Err (TopicBound kept)) kp kq r a =
     reaches_join start old new p q (ends (Err (TopicBound kept))) r a
 answered_on start old new p q (Err (BookFull topics)) kp kq r a =
     reaches_join start old new p q (ends (Err (BookFull topics))) r a
+answered_on start old new p q (Err (LogFault cell stand)) kp kq r a =
+    (last-quiet start old new p q stand kp kq r a.0, broken_on start old new p q cell r a.1)
+answered_on start old new p q (Err (CellClosed cell stand)) kp kq r a =
+    (last-quiet start old new p q stand kp kq r a.0, barred_on start old new p q cell r a.1)
 answered_on start old new p q (Err (OutOfMemory stand)) kp kq r a =
-    let none = stand-quiet old new q stand kq a in
-    subst (IsStopped 0 start new p) (sym none)
-    (stopped-quiet start new p a.rest kp (reaches_join start old new p q a.rest r a.stood.reached))
+    last-quiet start old new p q stand kp kq r a
 
 module _ (start w1 w2 new : Writer) (names : List NameShards) (t : Asked) where
   abbrev begin : Course (Result (List ℕ) SiteFault)

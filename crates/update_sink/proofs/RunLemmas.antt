@@ -17,15 +17,15 @@ use Rattle.source_streams.specs.declared.batch.TopicItem.{TopicItem}
 use Rattle.exchange_rules.specs.Cells.{Log, history_in}
 use Rattle.exchange_rules.specs.declared.run.TopicRun.{TopicRun}
 use Rattle.exchange_rules.proofs.GrowthLemmas.{grows_join}
-use Rattle.exchange_rules.specs.Calls.{Answered, HasAppended, Stopped}
+use Rattle.exchange_rules.specs.Calls.{Answered, HasAppended, IsStopped, Stopped}
 use Rattle.exchange_rules.specs.Courses.{Course, ends, and_then, and_ok, unless_refused}
 use Rattle.exchange_rules.specs.Following.{Grows, Writer, Reaches, Answers}
 use Rattle.exchange_rules.specs.Rows.{Layout}
 use Rattle.exchange_rules.specs.Topics.{Asked, begin_course, binding_for, bound_then, cut_then_store, run_course, sends_course, source_course, stopped_by, topic_course, tops_of}
 use Rattle.exchange_rules.specs.declared.fault.SiteFault.{SiteFault}
-use Rattle.exchange_rules.specs.declared.fault.SiteFault.TheVariants.{ShardFull, TopicBound, BookFull, OutOfMemory}
+use Rattle.exchange_rules.specs.declared.fault.SiteFault.TheVariants.{ShardFull, TopicBound, BookFull, LogFault, CellClosed, OutOfMemory}
 use Rattle.exchange_rules.specs.declared.run.TopicFault.{TopicFault}
-use Rattle.exchange_rules.proofs.AppendedLemmas.{appended_join, appended_none, appended_then, stopped_at, stopped_on}
+use Rattle.exchange_rules.proofs.AppendedLemmas.{appended_join, appended_none, appended_then, barred_on, broken_on, is_stopped_then, stopped_at, stopped_on}
 use Rattle.exchange_rules.proofs.ReachLemmas.{reaches_join, reaches_then}
 use Rattle.update_sink.specs.Runs.{IsRun, IsStoppedBy}
 use Rattle.update_sink.specs.Given.{AreGiven, AreThereNow}
@@ -52,12 +52,12 @@ module _ {A B : Type 0} (old new : Writer) (p : Course (Result A TopicFault))
       reaches_then old new p (ends (Err told)) (unless_refused next) a
   stopped-first told (BookFull topics) a =
       reaches_then old new p (ends (Err told)) (unless_refused next) a
-  stopped-first told (OutOfMemory stand) a = record {
-    rest = and_then a.rest (unless_refused next);
-    writes = a.writes;
-    stood = appended_then old new p a.rest (unless_refused next) a.writes a.stood;
-    counted = a.counted;
-  }
+  stopped-first told (LogFault cell stand) a =
+      (is_stopped_then 0 old new p (unless_refused next) told.stand a.0, a.1)
+  stopped-first told (CellClosed cell stand) a =
+      (is_stopped_then 0 old new p (unless_refused next) told.stand a.0, a.1)
+  stopped-first told (OutOfMemory stand) a =
+      is_stopped_then 0 old new p (unless_refused next) told.stand a
 
 -- a run that goes on from where it is, when no write stands yet
 pub run-on : {B : Type 0} (old mid new : Writer) (p q : Course (Result B TopicFault))
@@ -70,6 +70,10 @@ run-on {B} old mid new p q (Err told) a s = go told.fault s
     go (ShardFull c k n) s = reaches_join old mid new p q (ends (Err told)) a.reached s
     go (TopicBound kept) s = reaches_join old mid new p q (ends (Err told)) a.reached s
     go (BookFull topics) s = reaches_join old mid new p q (ends (Err told)) a.reached s
+    go (LogFault cell stand) s =
+        (stopped_on 0 old mid new p q 0 told.stand a s.0, broken_on old mid new p q cell a.reached s.1)
+    go (CellClosed cell stand) s =
+        (stopped_on 0 old mid new p q 0 told.stand a s.0, barred_on old mid new p q cell a.reached s.1)
     go (OutOfMemory stand) s = stopped_on 0 old mid new p q 0 told.stand a s
 
 module _ {B : Type 0} (old mid new : Writer) (names : List NameShards) (key : TopicKey)
@@ -86,20 +90,13 @@ module _ {B : Type 0} (old mid new : Writer) (names : List NameShards) (key : To
       (moved.done refl) moved.reached in
       reaches_then mid new (store_course names key tops) (ends (Ok tt)) next there
 
-  -- or memory was wanting, after so many writes
-  pub unstored-run : (p : Course (Result B TopicFault)) (n : ℕ) (told : TopicFault)
-      (fault : SiteFault)
+  -- or the store stopped, after so many writes
+  unstored-stopped : (p : Course (Result B TopicFault)) (n : ℕ) (told : TopicFault) (stand : ℕ)
       → HasAppended old mid p (and_ok (store_course {E = TopicFault} names key tops)
       (λ done. ends (Ok b))) n → told.stand ≡ n
-      → Answered mid new (store_course {E = SiteFault} names key tops) (Err fault)
-      → IsStoppedBy old new p told fault
-  unstored-run p n told (ShardFull c s k) before is a =
-      absurd (store-unrefused mid new names key tops (ShardFull c s k) a)
-  unstored-run p n told (TopicBound kept) before is a =
-      absurd (store-unrefused mid new names key tops (TopicBound kept) a)
-  unstored-run p n told (BookFull topics) before is a =
-      absurd (store-unrefused mid new names key tops (BookFull topics) a)
-  unstored-run p n told (OutOfMemory stand) before is a =
+      → IsStopped 0 mid new (store_course {E = SiteFault} names key tops) stand
+      → IsStopped 0 old new p told.stand
+  unstored-stopped p n told stand before is a =
       let moved = store-reached SiteFault TopicFault mid new names key tops a.rest
       a.stood.reached in
       let course = store_course {E = TopicFault} names key tops in
@@ -115,8 +112,48 @@ module _ {B : Type 0} (old mid new : Writer) (names : List NameShards) (key : To
         counted = omega (arith, is);
       }
 
+  -- so the run did
+  pub unstored-run : (p : Course (Result B TopicFault)) (n : ℕ) (told : TopicFault)
+      (fault : SiteFault)
+      → HasAppended old mid p (and_ok (store_course {E = TopicFault} names key tops)
+      (λ done. ends (Ok b))) n → told.stand ≡ n
+      → Answered mid new (store_course {E = SiteFault} names key tops) (Err fault)
+      → IsStoppedBy old new p told fault
+  unstored-run p n told (ShardFull c s k) before is a =
+      absurd (store-unrefused mid new names key tops (ShardFull c s k) a)
+  unstored-run p n told (TopicBound kept) before is a =
+      absurd (store-unrefused mid new names key tops (TopicBound kept) a)
+  unstored-run p n told (BookFull topics) before is a =
+      absurd (store-unrefused mid new names key tops (BookFull topics) a)
+  unstored-run p n told (LogFault cell stand) before is a = (
+    unstored-stopped p n told stand before is a.0,
+    broken_on old mid new p (and_ok (store_course {E = TopicFault} names key tops)
+        (λ done. ends (Ok b))) cell before.reached a.1,
+  )
+  unstored-run p n told (CellClosed cell stand) before is a = (
+    unstored-stopped p n told stand before is a.0,
+    barred_on old mid new p (and_ok (store_course {E = TopicFault} names key tops)
+        (λ done. ends (Ok b))) cell before.reached a.1,
+  )
+  unstored-run p n told (OutOfMemory stand) before is a =
+      unstored-stopped p n told stand before is a
+
 module _ {B : Type 0} (names : List NameShards) (t : Asked)
     (follow : List ℕ → List CutPart → Course (Result B TopicFault)) where
+  -- a topic whose beginning stopped
+  begin-halted : (old new : Writer) (stand : ℕ) → IsStopped 0 old new (begin_course names t) stand
+      → IsStopped 0 old new (topic_course names t (stopped_by none_sunk) follow)
+      (none_sunk.stand + stand)
+  begin-halted old new stand a =
+      let next = bound_then names t (stopped_by none_sunk) follow in
+      let count = a.counted in
+      record {
+        rest = and_then a.rest next;
+        writes = a.writes;
+        stood = appended_then old new (begin_course names t) a.rest next a.writes a.stood;
+        counted = omega (arith, count);
+      }
+
   -- a run whose topic didn't begin
   pub begin-stopped : (old new : Writer) (fault : SiteFault)
       → Answered old new (begin_course names t) (Err fault)
@@ -131,26 +168,17 @@ module _ {B : Type 0} (names : List NameShards) (t : Asked)
   begin-stopped old new (BookFull topics) a =
       reaches_then old new (begin_course names t) (ends (Err (BookFull topics)))
       (bound_then names t (stopped_by none_sunk) follow) a
-  begin-stopped old new (OutOfMemory stand) a =
-      let next = bound_then names t (stopped_by none_sunk) follow in
-      let count = a.counted in
-      record {
-        rest = and_then a.rest next;
-        writes = a.writes;
-        stood = appended_then old new (begin_course names t) a.rest next a.writes a.stood;
-        counted = omega (arith, count);
-      }
+  begin-stopped old new (LogFault cell stand) a = (begin-halted old new stand a.0, a.1)
+  begin-stopped old new (CellClosed cell stand) a = (begin-halted old new stand a.0, a.1)
+  begin-stopped old new (OutOfMemory stand) a = begin-halted old new stand a
 
-  -- or whose source couldn't be read
-  pub cut-stopped : (old mid new : Writer) (before : List ℕ) (fault : SiteFault)
+  -- a source whose reading stopped
+  cut-halted : (old mid new : Writer) (before : List ℕ) (stand : ℕ)
       → Answers old mid (begin_course names t) (Ok before)
-      → Stopped mid new (source_course names t.src) fault
-      → IsStoppedBy old new (topic_course names t (stopped_by none_sunk) follow)
-      (stopped_by none_sunk fault) fault
-  cut-stopped old mid new before (ShardFull c s n) a b = absurd b
-  cut-stopped old mid new before (TopicBound kept) a b = absurd b
-  cut-stopped old mid new before (BookFull topics) a b = absurd b
-  cut-stopped old mid new before (OutOfMemory stand) a b =
+      → IsStopped 0 mid new (source_course names t.src) stand
+      → IsStopped 0 old new (topic_course names t (stopped_by none_sunk) follow)
+      (none_sunk.stand + stand)
+  cut-halted old mid new before stand a b =
       let course = topic_course names t (stopped_by none_sunk) follow in
       let begun : Result (List ℕ) SiteFault = Ok before in
       let next : List CutPart → Course (Result B TopicFault) = λ cut. follow before cut in
@@ -166,6 +194,22 @@ module _ {B : Type 0} (names : List NameShards) (t : Asked)
             (appended_then mid new (source_course names t.src) b.rest next b.writes b.stood);
         counted = omega (arith, count);
       }
+
+  -- or whose source couldn't be read
+  pub cut-stopped : (old mid new : Writer) (before : List ℕ) (fault : SiteFault)
+      → Answers old mid (begin_course names t) (Ok before)
+      → Stopped mid new (source_course names t.src) fault
+      → IsStoppedBy old new (topic_course names t (stopped_by none_sunk) follow)
+      (stopped_by none_sunk fault) fault
+  cut-stopped old mid new before (ShardFull c s n) a b = absurd b
+  cut-stopped old mid new before (TopicBound kept) a b = absurd b
+  cut-stopped old mid new before (BookFull topics) a b = absurd b
+  cut-stopped old mid new before (LogFault cell stand) a b = absurd b
+  cut-stopped old mid new before (CellClosed cell stand) a b = (
+    cut-halted old mid new before stand a b.0,
+    barred_on old mid new (begin_course names t) (ends (Ok before)) cell a b.1,
+  )
+  cut-stopped old mid new before (OutOfMemory stand) a b = cut-halted old mid new before stand a b
 
 module _ (old mid new : Writer) (l : Layout) (key : TopicKey) (dest src : ByteList) (size : ℕ)
     (items : List TopicItem) (tops : List ℕ) (answer : Sunk → TopicRun) where

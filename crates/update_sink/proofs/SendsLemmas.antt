@@ -16,7 +16,7 @@ use Rattle.once_core.proofs.GrowthLemmas.{reaches_up, top_up, write_up}
 use Rattle.exchange_rules.specs.Accesses.{Access, a_look, a_step, at_mark}
 use Rattle.exchange_rules.specs.Batches.{Sunk, batches_of, told_sunk, with_batch}
 use Rattle.exchange_rules.specs.Bindings.{book_cell, store_course, store_seen}
-use Rattle.exchange_rules.specs.Calls.{Answered, HasAppended}
+use Rattle.exchange_rules.specs.Calls.{Answered, HasAppended, IsStopped}
 use Rattle.exchange_rules.specs.Cells.{Log, Payload, book_in, store}
 use Rattle.exchange_rules.specs.Courses.{Course, ends, makes, and_then}
 use Rattle.exchange_rules.specs.Deliveries.{send_course}
@@ -26,9 +26,9 @@ use Rattle.exchange_rules.specs.Topics.{after_send, sends_course, stopped_by}
 use Rattle.exchange_rules.specs.declared.batch.BatchItem.{BatchItem}
 use Rattle.exchange_rules.specs.declared.batch.Sent.{Sent}
 use Rattle.exchange_rules.specs.declared.fault.SiteFault.{SiteFault}
-use Rattle.exchange_rules.specs.declared.fault.SiteFault.TheVariants.{ShardFull, TopicBound, BookFull, OutOfMemory}
+use Rattle.exchange_rules.specs.declared.fault.SiteFault.TheVariants.{ShardFull, TopicBound, BookFull, LogFault, CellClosed, OutOfMemory}
 use Rattle.exchange_rules.specs.declared.run.TopicFault.{TopicFault}
-use Rattle.exchange_rules.proofs.AppendedLemmas.{appended_join, appended_none, appended_then, stopped_at}
+use Rattle.exchange_rules.proofs.AppendedLemmas.{appended_join, appended_none, appended_then, stopped_at, is_stopped_then, broken_on, barred_on}
 use Rattle.exchange_rules.proofs.ReachLemmas.{reaches_join, reaches_then}
 use Rattle.site_laws.specs.SiteCells.{histories_in}
 use Rattle.site_laws.proofs.CellLemmas.{seen-grows}
@@ -75,13 +75,19 @@ module _ (old new : Writer) (l : Layout) (dest src : ByteList) (b : List BatchIt
       here (ShardFull c n k) a = λ next. after (Err (ShardFull c n k)) a next
       here (TopicBound kept) a = λ next. after (Err (TopicBound kept)) a next
       here (BookFull topics) a = λ next. after (Err (BookFull topics)) a next
-      here (OutOfMemory stand) a = λ next. record {
-        rest = and_then a.rest (after_send (length b) s next);
-        writes = a.writes;
-        stood = appended_then old new (send_course l dest src b) a.rest
-            (after_send (length b) s next) a.writes a.stood;
-        counted = a.counted;
-      }
+      here (LogFault cell stand) a = λ next. (
+        is_stopped_then 0 old new (send_course l dest src b) (after_send (length b) s next) stand
+            a.0,
+        a.1,
+      )
+      here (CellClosed cell stand) a = λ next. (
+        is_stopped_then 0 old new (send_course l dest src b) (after_send (length b) s next) stand
+            a.0,
+        a.1,
+      )
+      here (OutOfMemory stand) a = λ next.
+          is_stopped_then 0 old new (send_course l dest src b) (after_send (length b) s next) stand
+          a
 
 -- memory was wanting before a batch was begun
 pub unsent-none : (w : Writer) (batch : Next → Course (Result Sunk TopicFault)) (now : Sunk)
@@ -184,13 +190,9 @@ module _ (start old new : Writer) (course : Course (Result Sunk TopicFault))
           counted-sends here dest src t
           (batches_of size (map (sent_item src) (drop size rest)))))
 
-      go : (f : SiteFault) → IsSent old new (send_of here dest src batch s) s (Err f)
-          → IsStoppedBy start new course (stopped_by s f) f
-      go (ShardFull c n k) a = refused (ShardFull c n k) (a next)
-      go (TopicBound kept) a = refused (TopicBound kept) (a next)
-      go (BookFull topics) a = refused (BookFull topics) (a next)
-      go (OutOfMemory stand) a =
-          let b = a next in
+      stopped : (stand : ℕ) → IsStopped 0 old new course_of stand
+          → IsStopped 0 start new course (s.stand + stand)
+      stopped stand b =
           let count = b.counted in
           record {
             rest = b.rest;
@@ -199,6 +201,19 @@ module _ (start old new : Writer) (course : Course (Result Sunk TopicFault))
                 b.stood;
             counted = omega (arith, count);
           }
+
+      go : (f : SiteFault) → IsSent old new (send_of here dest src batch s) s (Err f)
+          → IsStoppedBy start new course (stopped_by s f) f
+      go (ShardFull c n k) a = refused (ShardFull c n k) (a next)
+      go (TopicBound kept) a = refused (TopicBound kept) (a next)
+      go (BookFull topics) a = refused (BookFull topics) (a next)
+      go (LogFault cell stand) a =
+          let b = a next in
+          (stopped stand b.0, broken_on start old new course course_of cell before.reached b.1)
+      go (CellClosed cell stand) a =
+          let b = a next in
+          (stopped stand b.0, barred_on start old new course course_of cell before.reached b.1)
+      go (OutOfMemory stand) a = stopped stand (a next)
 
 -- the run has delivered all of its batches
 pub sends-done : (start new : Writer) (course : Course (Result Sunk TopicFault))
@@ -393,6 +408,7 @@ store-reached E F old new names key upto rest r =
         marks = r.marks;
         own = r.own;
         looked = r.looked;
+        faults = r.faults;
         followed = m.followed;
       };
     }

@@ -5,14 +5,14 @@ use Rattle.tuple_values.specs.Document.{ByteList, Doc}
 use Rattle.tuple_values.specs.declared.memory.Memory.{Memory}
 use Rattle.tuple_values.specs.declared.write.Write.{Write}
 use Rattle.exchange_rules.specs.Batches.{Sunk, batches_of, stand_in, with_batch}
-use Rattle.exchange_rules.specs.Calls.{Answered, Carried}
+use Rattle.exchange_rules.specs.Calls.{Answered, Carried, IsStopped}
 use Rattle.exchange_rules.specs.Courses.{Course, ends, and_then}
 use Rattle.exchange_rules.specs.Following.{Writer, Reaches, Answers, Begins}
 use Rattle.exchange_rules.specs.Puts.{puts_of}
 use Rattle.exchange_rules.specs.Rows.{Layout, index_course}
 use Rattle.exchange_rules.specs.Updates.{after_batch, batches_course}
 use Rattle.exchange_rules.specs.declared.fault.SiteFault.{SiteFault}
-use Rattle.exchange_rules.specs.declared.fault.SiteFault.TheVariants.{ShardFull, TopicBound, BookFull, OutOfMemory}
+use Rattle.exchange_rules.specs.declared.fault.SiteFault.TheVariants.{ShardFull, TopicBound, BookFull, LogFault, CellClosed, OutOfMemory}
 use Rattle.exchange_rules.specs.declared.run.Ran.{Ran}
 use Rattle.exchange_rules.specs.declared.run.RunFault.{RunFault}
 use Rattle.exchange_rules.specs.declared.run.RunFault.TheVariants.{Site}
@@ -62,20 +62,30 @@ module _ (old new : Writer) (l : Layout) (dest : ByteList) (tuples : ℕ) (s : S
       halts (ShardFull collection shard stand) h (cc) a
   refused_halt (TopicBound kept) h is a = halts (TopicBound kept) h (cc) a
   refused_halt (BookFull topics) h is a = halts (BookFull topics) h (cc) a
+  refused_halt (LogFault cell stand) h is a = absurd (cc)
+  refused_halt (CellClosed cell stand) h is a = absurd (cc)
   refused_halt (OutOfMemory stand) h is a = absurd (cc)
 
-  -- memory was wanting in a batch
+  -- a batch stopped
+  stopped_begun : (stand : ℕ) → IsStopped 0 old new (index_course l dest writes true) stand
+      → (next : Sunk → Course Ran)
+      → Begins old new (batch_of l dest tuples s (Ok writes) next)
+  stopped_begun stand a next = (
+    and_then a.rest (after_batch tuples s next),
+    reaches_then old new (index_course l dest writes true) a.rest (after_batch tuples s next)
+        a.stood.reached,
+  )
+
+  -- memory was wanting in a batch, or a log failed
   pub refused_begun : (fault : SiteFault) (now : Sunk) (want : Memory) → None ≡ halt_of fault
       → Answered old new (index_course l dest writes true) (Err fault)
       → IsTaken old new (batch_of l dest tuples s (Ok writes)) now (Err want)
   refused_begun (ShardFull collection shard stand) now want is a next = absurd (cc)
   refused_begun (TopicBound kept) now want is a next = absurd (cc)
   refused_begun (BookFull topics) now want is a next = absurd (cc)
-  refused_begun (OutOfMemory stand) now want is a next = (
-    and_then a.rest (after_batch tuples s next),
-    reaches_then old new (index_course l dest writes true) a.rest (after_batch tuples s next)
-        a.stood.reached,
-  )
+  refused_begun (LogFault cell stand) now want is a next = stopped_begun stand a.0 next
+  refused_begun (CellClosed cell stand) now want is a next = stopped_begun stand a.0 next
+  refused_begun (OutOfMemory stand) now want is a next = stopped_begun stand a next
 
 -- a tuple of a batch asks for no write
 pub faulty : (w : Writer) (l : Layout) (dest : ByteList) (tuples : ℕ) (s : Sunk)

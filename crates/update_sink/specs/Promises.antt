@@ -1,5 +1,5 @@
 -- What the run of a topic promises over what its writer has seen, and what it appends (own).
-use Rattle.std.specs.Prelude.{ℕ, ◌≡◌, ◌<◌, ◌≤◌, Bool, true, false, not, bytes_eq, count_by, Contains, List, ◌++◌, slice_index, Result, Ok, Err}
+use Rattle.std.specs.Prelude.{ℕ, ◌≡◌, ◌≢◌, ◌<◌, ◌≤◌, Bool, true, false, not, bytes_eq, count_by, Contains, List, ◌++◌, slice_index, Result, Ok, Err}
 use Rattle.std.specs.List.{AllByRecursion}
 use Rattle.tuple_values.specs.Document.{ByteList}
 use Rattle.tuple_values.specs.declared.names.NameShards.{NameShards}
@@ -10,12 +10,15 @@ use Rattle.topic_book.specs.Books.{checkpoint, same_key}
 use Rattle.topic_book.specs.declared.topic.BookEntry.TheVariants.{Bind, Store}
 use Rattle.topic_book.specs.declared.topic.TopicKey.{TopicKey}
 use Rattle.exchange_rules.specs.Accesses.{at_owns}
+use Rattle.exchange_rules.specs.Bindings.{book_cell}
 use Rattle.exchange_rules.specs.Calls.{is_write}
 use Rattle.exchange_rules.specs.Cells.{Log}
 use Rattle.exchange_rules.specs.Deliveries.{sent_kind}
 use Rattle.exchange_rules.specs.Following.{Writer}
 use Rattle.exchange_rules.specs.Rows.{Layout}
 use Rattle.exchange_rules.specs.Topics.{tops_of}
+use Rattle.exchange_rules.specs.declared.fault.SiteFault.{SiteFault}
+use Rattle.exchange_rules.specs.declared.fault.SiteFault.TheVariants.{ShardFull, TopicBound, BookFull, LogFault, CellClosed, OutOfMemory}
 use Rattle.exchange_rules.specs.declared.log_entry.LogEntry.{LogEntry}
 use Rattle.exchange_rules.specs.declared.log_entry.LogEntry.TheVariants as logged
 use Rattle.exchange_rules.specs.declared.run.TopicFault.{TopicFault}
@@ -73,6 +76,15 @@ pub record IsRunAlone (key : TopicKey) (src : ByteList) (old new : Writer) : Typ
 pub record IsUnstored (old new : Writer) : Type 0 where
   pub gained : Gained old new
   pub stores : count_by is_store (appended old new gained) ≡ 0
+
+-- it stored nothing, unless the fault is one of the book's log: then the own marks tell
+abbrev pub IsUnstoredBy : List NameShards → (old new : Writer) → SiteFault → Type 0
+IsUnstoredBy names old new (ShardFull collection shard stand) = IsUnstored old new
+IsUnstoredBy names old new (TopicBound kept) = IsUnstored old new
+IsUnstoredBy names old new (BookFull topics) = IsUnstored old new
+IsUnstoredBy names old new (LogFault cell stand) = cell ≢ book_cell names → IsUnstored old new
+IsUnstoredBy names old new (CellClosed cell stand) = IsUnstored old new
+IsUnstoredBy names old new (OutOfMemory stand) = IsUnstored old new
 
 -- just so many of the entries that the writer appended are writes
 pub record HasStood (old new : Writer) (writes : ℕ) : Type 0 where

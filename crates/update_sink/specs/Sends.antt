@@ -7,7 +7,7 @@ use Rattle.topic_book.specs.declared.topic.TopicKey.{TopicKey}
 use Rattle.once_core.specs.Allowed.{MayStore}
 use Rattle.exchange_rules.specs.Batches.{Sunk, batches_of, none_sunk}
 use Rattle.exchange_rules.specs.Bindings.{store_course}
-use Rattle.exchange_rules.specs.Calls.{IsStopped}
+use Rattle.exchange_rules.specs.Calls.{HasBarred, HasBroken, IsStopped}
 use Rattle.exchange_rules.specs.Cells.{Log}
 use Rattle.exchange_rules.specs.Courses.{Course, ends, and_then, and_ok}
 use Rattle.exchange_rules.specs.Deliveries.{send_course}
@@ -18,7 +18,7 @@ use Rattle.site_laws.specs.SiteCells.{histories_in}
 use Rattle.source_streams.specs.declared.batch.TopicItem.{TopicItem}
 use Rattle.exchange_rules.specs.declared.batch.BatchItem.{BatchItem}
 use Rattle.exchange_rules.specs.declared.fault.SiteFault.{SiteFault}
-use Rattle.exchange_rules.specs.declared.fault.SiteFault.TheVariants.{ShardFull, TopicBound, BookFull, OutOfMemory}
+use Rattle.exchange_rules.specs.declared.fault.SiteFault.TheVariants.{ShardFull, TopicBound, BookFull, LogFault, CellClosed, OutOfMemory}
 use Rattle.exchange_rules.specs.declared.run.TopicFault.{TopicFault}
 use Rattle.exchange_rules.specs.declared.run.TopicRun.{TopicRun}
 use Rattle.update_sink.specs.Given.{AreThereNow}
@@ -34,7 +34,8 @@ abbrev pub send_of : Layout → (dest src : ByteList) → List BatchItem → Sun
     → Course (Result Sunk TopicFault)
 send_of l dest src b s next = and_then (send_course l dest src b) (after_send (length b) s next)
 
--- a batch was refused as its course says, or memory was wanting when so many of its writes stood
+-- a batch was refused as its course says, or stopped when so many of its writes stood: at a fault of a
+-- log that it noted, at a cell that it found closed, or for want of memory
 abbrev pub IsUnsent : Writer → Writer → (Next → Course (Result Sunk TopicFault)) → Sunk
     → SiteFault → Type 0
 IsUnsent old new batch s (ShardFull collection shard stand) =
@@ -44,6 +45,10 @@ IsUnsent old new batch s (TopicBound kept) =
     (next : Next) → Answers old new (batch next) (Err (stopped_by s (TopicBound kept)))
 IsUnsent old new batch s (BookFull topics) =
     (next : Next) → Answers old new (batch next) (Err (stopped_by s (BookFull topics)))
+IsUnsent old new batch s (LogFault cell stand) =
+    (next : Next) → IsStopped 0 old new (batch next) stand × HasBroken old new cell
+IsUnsent old new batch s (CellClosed cell stand) =
+    (next : Next) → IsStopped 0 old new (batch next) stand × HasBarred old new cell
 IsUnsent old new batch s (OutOfMemory stand) =
     (next : Next) → IsStopped 0 old new (batch next) stand
 

@@ -9,7 +9,7 @@ use Rattle.exchange_rules.specs.Following.{Writer, Reaches, Answers, Begins}
 use Rattle.exchange_rules.specs.Rows.{Layout}
 use Rattle.exchange_rules.specs.Updates.{batch_course, ran_into}
 use Rattle.exchange_rules.specs.declared.fault.SiteFault.{SiteFault}
-use Rattle.exchange_rules.specs.declared.fault.SiteFault.TheVariants.{ShardFull, TopicBound, BookFull, OutOfMemory}
+use Rattle.exchange_rules.specs.declared.fault.SiteFault.TheVariants.{ShardFull, TopicBound, BookFull, LogFault, CellClosed, OutOfMemory}
 use Rattle.exchange_rules.specs.declared.run.Ran.{Ran}
 use Rattle.exchange_rules.specs.declared.run.RunFault.{RunFault}
 use Rattle.exchange_rules.specs.declared.run.RunFault.TheVariants.{Site}
@@ -19,12 +19,14 @@ use Rattle.update_sink.specs.declared.update.Halt.{Halt}
 abbrev pub halted : Sunk → Halt → Ran
 halted s h = ran_into s h.stand h.fault
 
--- why a batch that was refused stops its update, and none where memory was wanting
+-- why a batch that was refused stops its update, and none where memory was wanting or a log failed
 abbrev pub halt_of : SiteFault → Option Halt
 halt_of (ShardFull collection shard stand) =
     Some (record { stand = stand; fault = Site (ShardFull collection shard stand) })
 halt_of (TopicBound kept) = Some (record { stand = 0; fault = Site (TopicBound kept) })
 halt_of (BookFull topics) = Some (record { stand = 0; fault = Site (BookFull topics) })
+halt_of (LogFault cell stand) = None
+halt_of (CellClosed cell stand) = None
 halt_of (OutOfMemory stand) = None
 
 -- the course of a batch

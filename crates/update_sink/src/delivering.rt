@@ -108,7 +108,10 @@ pub(crate) fn stand_in(fault: &SiteFault) -> u64
     ensures { result ≡ stand_in fault.now }
 {
     match fault {
-        SiteFault::ShardFull { stand, .. } | SiteFault::OutOfMemory { stand } => *stand,
+        SiteFault::ShardFull { stand, .. }
+        | SiteFault::LogFault { stand, .. }
+        | SiteFault::CellClosed { stand, .. }
+        | SiteFault::OutOfMemory { stand } => *stand,
         SiteFault::TopicBound { .. } | SiteFault::BookFull { .. } => 0,
     }
 }

@@ -66,7 +66,8 @@ fn read_above<T: Turns>(
 
 /// Gives the tuples of a topic above its checkpoint, which is bound first where it isn't: those that
 /// a cut of its source holds. Their versions are stored before they are given, so after an `Err`
-/// what follows gives them again, unless memory was wanting. The writer has no turn afterwards.
+/// what follows gives them again, unless memory was wanting or the book's log failed. The writer has no
+/// turn afterwards.
 pub fn read_topic<T: Turns>(
     alloc: Global,
     site: &mut T,

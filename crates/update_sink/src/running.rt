@@ -1,10 +1,10 @@
 // Topics that are delivered.
-ghost use Rattle.std.specs.Prelude.{◌≡◌, ◌≢◌, ◌<◌, IfOk, OnErr, OnOk, Some};
+ghost use Rattle.std.specs.Prelude.{◌≡◌, ◌≢◌, ◌<◌, IfOk, IfErr, OnOk, Some};
 ghost use Rattle.topic_book.specs.Fitness.{shards_of};
 ghost use Rattle.exchange_rules.specs.Batches.{none_sunk};
 ghost use Rattle.exchange_rules.specs.Topics.{run_course, stopped_by};
 ghost use Rattle.update_sink.specs.Given.{AreGiven, AreThereNow};
-ghost use Rattle.update_sink.specs.Promises.{HasDelivered, HasReached, HasStood, IsKept, IsRunAlone, IsUnstored, stand_of};
+ghost use Rattle.update_sink.specs.Promises.{HasDelivered, HasReached, HasStood, IsKept, IsRunAlone, IsUnstoredBy, stand_of};
 ghost use Rattle.update_sink.specs.Runs.{IsRun};
 ghost use Rattle.update_sink.specs.Sends.{IsToldOf, MayFinish, finish_course};
 ghost use Rattle.update_sink.specs.Topics.{asked_of, batches_over, key_of, run_at, run_of, sink_of, IsCheckedDelivery, IsSinkThere};
@@ -57,7 +57,8 @@ fn finish<T: Turns, G: Gate>(
         delivery.now.dest.now delivery.now.topic.collection.now taken.items) }
     ensures reached { OnOk result (HasReached (T.layout site.old).names (T.writer site.new).seen
         key.now taken.tops) }
-    ensures unstored { OnErr result (IsUnstored (T.writer site.old) (T.writer site.new)) }
+    ensures unstored { IfErr result (λ stop. IsUnstoredBy (T.layout site.old).names
+        (T.writer site.old) (T.writer site.new) stop.fault) }
     ensures layout { T.layout site.new ≡ T.layout site.old }
     ensures home { T.home site.new ≡ T.home site.old }
 {
@@ -105,7 +106,8 @@ fn run_delivery<T: Turns, G: Gate>(
         (sink_of delivery.now).dest (batches_over (sink_of delivery.now)) run_of) result }
     ensures kept { IfOk result (IsKept (T.layout site.old) (T.writer site.new)
         (sink_of delivery.now)) }
-    ensures unstored { OnErr result (IsUnstored (T.writer site.old) (T.writer site.new)) }
+    ensures unstored { IfErr result (λ stop. IsUnstoredBy (T.layout site.old).names
+        (T.writer site.old) (T.writer site.new) stop.fault) }
     ensures layout { T.layout site.new ≡ T.layout site.old }
     ensures home { T.home site.new ≡ T.home site.old }
 {
@@ -155,10 +157,12 @@ pub fn run_topic<T: Turns, G: Gate>(
         (sink_of delivery.now)) }
 
     // The writer appended at most one Bind and one Store of the topic, and else documents of its
-    // source and Marks; after an `Err` it stored nothing.
+    // source and Marks; after an `Err` it stored nothing, but after a fault of the book's log the
+    // Store stands or it doesn't.
     ensures alone { IsRunAlone (key_of (sink_of delivery.now).topic)
         (sink_of delivery.now).topic.collection (T.writer site.old) (T.writer site.new) }
-    ensures unstored { OnErr result (IsUnstored (T.writer site.old) (T.writer site.new)) }
+    ensures unstored { IfErr result (λ stop. IsUnstoredBy (T.layout site.old).names
+        (T.writer site.old) (T.writer site.new) stop.fault) }
 
     // Whatever the answer is, just so many writes of this call stand as it tells.
     ensures stood { HasStood (T.writer site.old) (T.writer site.new) (stand_of result) }

@@ -23,15 +23,17 @@ pub(crate) struct Halt {
     fault: RunFault,
 }
 
-// Why an update stops in a batch that was refused, and none where memory was wanting. It takes no
-// memory, so neither can be told as the other.
+// Why an update stops in a batch that was refused, and none where memory was wanting. No site has logs
+// yet: a log's fault ends it as want of memory does. It takes no memory, so neither can be told as the
+// other.
 fn halt_of(fault: SiteFault) -> Option<Halt>
     ensures { result ≡ halt_of fault }
 {
     let stand = match &fault {
         SiteFault::ShardFull { stand, .. } => *stand,
         SiteFault::TopicBound { .. } | SiteFault::BookFull { .. } => 0,
-        SiteFault::OutOfMemory { .. } => return None,
+        SiteFault::LogFault { .. } | SiteFault::CellClosed { .. } | SiteFault::OutOfMemory { .. } =>
+            return None,
     };
     Some(Halt {
         stand,

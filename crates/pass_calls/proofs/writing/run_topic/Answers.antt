@@ -1,5 +1,5 @@
 use Rattle.std.proofs.Common.{◌∙◌, ap, subst}
-use Rattle.std.specs.Prelude.{IfOk, OnErr, Some}
+use Rattle.std.specs.Prelude.{IfErr, IfOk, Some}
 use Rattle.exchange_rules.specs.Following.{Writer}
 use Rattle.exchange_rules.specs.Rows.{Layout}
 use Rattle.turn_table.specs.Calls.{known}
@@ -7,7 +7,7 @@ use Rattle.running_site.specs.Passes.{layout_in, writer_in, writer_of}
 use Rattle.running_site.specs.Sites.{layout_at, IsPassAt}
 use Rattle.running_site.proofs.CallLemmas.{at-site}
 use Rattle.exchange_rules.specs.Topics.{run_course}
-use Rattle.update_sink.specs.Promises.{HasDelivered, HasStood, IsKept, IsRunAlone, IsUnstored}
+use Rattle.update_sink.specs.Promises.{HasDelivered, HasStood, IsKept, IsRunAlone, IsUnstoredBy}
 use Rattle.update_sink.specs.Promises.{stand_of}
 use Rattle.update_sink.specs.Runs.{IsRun}
 use Rattle.update_sink.specs.Topics.{asked_of, batches_over, key_of, run_of, sink_of}
@@ -88,7 +88,8 @@ returns-clause-unstored g c =
     let site = c.args.site.now in
     let v = c.visit-visit.result in
     let w = c.run_topic-result.new.site in
-    at-site (λ a b (l : Layout). OnErr c.run_topic-result.result (IsUnstored a b))
+    at-site (λ a b (l : Layout). IfErr c.run_topic-result.result
+    (λ stop. IsUnstoredBy l.names a b stop.fault))
     (writer_of c.args.pass.now) (writer_in (known v.pass) v.marks.items v.own.items)
     (writer_in (known w.pass) w.marks.items w.own.items) (writer_of c.end.new.pass) (layout_at site)
     (layout_in v.site.now.names v.site.now.limit) c.visit-visit.ensures.writer

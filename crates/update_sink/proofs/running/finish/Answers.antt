@@ -1,5 +1,5 @@
 use Rattle.std.proofs.Common.{refl, sym, ap, subst}
-use Rattle.std.specs.Prelude.{map, OnErr}
+use Rattle.std.specs.Prelude.{map, IfErr}
 use Rattle.exchange_rules.specs.Batches.{batches_of, none_sunk}
 use Rattle.exchange_rules.specs.Rows.{Layout}
 use Rattle.exchange_rules.specs.Topics.{sends_course}
@@ -10,15 +10,17 @@ use Rattle.once_core.specs.Allowed.{MayStore}
 use Rattle.site_laws.specs.SiteCells.{histories_in}
 use Rattle.update_sink.specs.Given.{AreThereNow}
 use Rattle.update_sink.specs.Promises as promised
-use Rattle.update_sink.specs.Promises.{IsUnstored}
+use Rattle.update_sink.specs.Promises.{IsUnstoredBy}
 use Rattle.update_sink.specs.Runs.{IsRun}
 use Rattle.update_sink.specs.Sends.{finish_course, sunk_done}
 use Rattle.update_sink.specs.Topics.{run_at, sent_item}
 use Rattle.exchange_rules.specs.Batches.{Sunk}
-use Rattle.update_sink.proofs.KeptLemmas.{refused-reached}
+use Rattle.update_sink.proofs.KeptLemmas.{refused-reached, store-unstored, unstored-by, unstored-since}
 use Rattle.update_sink.proofs.PromiseLemmas.{stopped-run, sends-unstored, store-reaches, unstored-only, unstored-same, unstored-then}
 use Rattle.update_sink.proofs.SendsLemmas.{there-later}
 use Rattle.update_sink.proofs.RunLemmas.{finished, undelivered, unfinished, unstarted}
+use Rattle.stream_site.specs.Topics.{HasStoredNone}
+use Rattle.exchange_rules.specs.Bindings.{book_cell}
 use Rattle.update_sink.proofs.running.finish.Goals as goal
 
 pub returns-in-Err-clause-course : goal.returns-in-Err-clause-course
@@ -137,8 +139,10 @@ returns-in_err-done-clause-unstored g c =
     (map (sent_item src) c.as_slice.result.now) in
     let course = sends_course l dest src none_sunk batches in
     let h = stopped-run w mid course _ c.in_err-done.ensures.course in
-    handed_on (λ r. OnErr r (IsUnstored w mid)) _ _ c.from_residual.ensures.1
-    (unstored-only w mid course h.rest h.reached (sends-unstored l dest src batches))
+    handed_on (λ r. IfErr r (λ x. IsUnstoredBy l.names w mid x.fault)) _ _
+    c.from_residual.ensures.1
+    (unstored-by l.names w mid _
+    (unstored-only w mid course h.rest h.reached (sends-unstored l dest src batches)))
 
 pub returns-in-Err-store_topic_over-clause-unstored
     : goal.returns-in-Err-store_topic_over-clause-unstored
@@ -153,10 +157,17 @@ returns-in-Err-store_topic_over-clause-unstored g c =
     (map (sent_item src) c.as_slice.result.now) in
     let h = refused-reached mid new _ c.in-Err-store_topic_over.fault
     c.in-Err-store_topic_over.ensures.course in
-    unstored-then w mid new (sends_course l dest src none_sunk batches) _
-    c.in_ok-done.ensures.course (sends-unstored l dest src batches) h.reached.grown
-    (unstored-same mid new c.in-Err-store_topic_over.ensures.unstored)
+    let fault = c.in-Err-store_topic_over.fault in
+    let there = g.T.Turns.layout c.deliver_all.new.site in
+    let here = c.in_ok-done.ensures.layout in
+    let stored = subst (λ (x : Layout). HasStoredNone (book_cell x.names) mid new fault) here
+    c.in-Err-store_topic_over.ensures.unstored in
+    unstored-since l.names mid w new fault
+    (unstored-then w mid new (sends_course l dest src none_sunk batches) _
+    c.in_ok-done.ensures.course (sends-unstored l dest src batches) h.reached.grown)
+    (store-unstored l.names mid new fault stored)
 
 pub returns-in-Err-clause-unstored : goal.returns-in-Err-clause-unstored
 returns-in-Err-clause-unstored g c =
-    let w = g.T.Turns.writer c.args.site.now in unstored-same w w refl
+    let w = g.T.Turns.writer c.args.site.now in
+    unstored-by (g.T.Turns.layout c.args.site.now).names w w _ (unstored-same w w refl)

@@ -1,12 +1,14 @@
-use Rattle.std.proofs.Common.{refl, ◌∙◌}
-use Rattle.std.specs.Prelude.{Some}
+use Rattle.std.proofs.Common.{refl, ◌∙◌, subst}
+use Rattle.std.specs.Prelude.{Some, IfErr}
 use Rattle.expr_check.specs.Roots.{topic_parts}
 use Rattle.expr_check.specs.Views.{tree_of}
 use Rattle.update_sink.specs.Topics.{asked_by, sink_of}
 use Rattle.update_sink.proofs.ReadLemmas.{text-readable, text-says}
-use Rattle.update_sink.proofs.KeptLemmas.{run-kept, unbegun-unstored, uncut-unstored, whole-unstored}
+use Rattle.update_sink.proofs.KeptLemmas.{run-kept, unbegun-unstored, uncut-unstored, whole-unstored, unstored-by}
 use Rattle.update_sink.proofs.PromiseLemmas.{unstored-same}
 use Rattle.update_sink.proofs.RunLemmas.{run-done, run-given, run-may, run-unasked, run-unbegun, run-uncut}
+use Rattle.update_sink.specs.Promises.{IsUnstoredBy}
+use Rattle.exchange_rules.specs.Rows.{Layout}
 use Rattle.update_sink.proofs.running.run_delivery.Goals as goal
 
 pub begin_topic-requires-clause-dest : goal.begin_topic-requires-clause-dest
@@ -93,23 +95,28 @@ returns-clause-course g c =
 
 pub returns-in-Err-clause-unstored : goal.returns-in-Err-clause-unstored
 returns-in-Err-clause-unstored g c =
-    let w = g.T.Turns.writer c.args.site.now in unstored-same w w refl
+    let w = g.T.Turns.writer c.args.site.now in
+    unstored-by (g.T.Turns.layout c.args.site.now).names w w _ (unstored-same w w refl)
 
 pub returns-in-Err-begin_topic-clause-unstored : goal.returns-in-Err-begin_topic-clause-unstored
 returns-in-Err-begin_topic-clause-unstored g c =
-    unbegun-unstored (g.T.Turns.writer c.args.site.now) (g.T.Turns.writer c.begin_topic.new.site)
+    unstored-by (g.T.Turns.layout c.args.site.now).names (g.T.Turns.writer c.args.site.now)
+    (g.T.Turns.writer c.begin_topic.new.site) _
+    (unbegun-unstored (g.T.Turns.writer c.args.site.now) (g.T.Turns.writer c.begin_topic.new.site)
     (g.T.Turns.layout c.args.site.now) _ c.in-Err-begin_topic.fault
-    c.in-Err-begin_topic.ensures.course
+    c.in-Err-begin_topic.ensures.course)
 
 pub returns-in-Err-take_source-clause-unstored : goal.returns-in-Err-take_source-clause-unstored
 returns-in-Err-take_source-clause-unstored g c =
     let delivery = c.args.delivery.now in
     let t = asked_by c.in-Ok.key (topic_parts delivery.topic) (Some delivery.dest.now) in
-    uncut-unstored (g.T.Turns.writer c.args.site.now) (g.T.Turns.writer c.begin_topic.new.site)
+    unstored-by (g.T.Turns.layout c.args.site.now).names (g.T.Turns.writer c.args.site.now)
+    (g.T.Turns.writer c.take_source.new.site) _
+    (uncut-unstored (g.T.Turns.writer c.args.site.now) (g.T.Turns.writer c.begin_topic.new.site)
     (g.T.Turns.layout c.args.site.now) t c.in-Ok-begin_topic.before
     c.in-Ok-begin_topic.ensures.course (g.T.Turns.writer c.take_source.new.site)
     (g.T.Turns.layout c.begin_topic.new.site) t.src c.in-Err-take_source.fault
-    c.in-Err-take_source.ensures.course
+    c.in-Err-take_source.ensures.course)
 
 pub returns-clause-unstored : goal.returns-clause-unstored
 returns-clause-unstored g c =
@@ -120,7 +127,11 @@ returns-clause-unstored g c =
     c.in-Ok-begin_topic.ensures.course (g.T.Turns.writer c.take_source.new.site)
     (g.T.Turns.writer c.finish.new.site) (g.T.Turns.layout c.begin_topic.new.site) t.src
     c.in-Ok-take_source.taken.cut _ c.finish.result c.in-Ok-take_source.ensures.course
-    c.finish.ensures.course c.finish.ensures.unstored
+    c.finish.ensures.course (g.T.Turns.layout c.args.site.now).names
+    (subst (λ (x : Layout). IfErr c.finish.result (λ stop. IsUnstoredBy x.names
+    (g.T.Turns.writer c.take_source.new.site) (g.T.Turns.writer c.finish.new.site) stop.fault))
+    (c.in-Ok-take_source.ensures.layout ∙ c.in-Ok-begin_topic.ensures.layout)
+    c.finish.ensures.unstored)
 
 pub returns-clause-kept : goal.returns-clause-kept
 returns-clause-kept g c =

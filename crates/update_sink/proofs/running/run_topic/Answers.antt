@@ -1,8 +1,8 @@
 use Rattle.std.proofs.Common.{sym, subst}
-use Rattle.std.specs.Prelude.{IfOk, OnErr, Some}
+use Rattle.std.specs.Prelude.{IfErr, IfOk, Some}
 use Rattle.exchange_rules.specs.Following.{Writer}
 use Rattle.exchange_rules.specs.Topics.{run_course}
-use Rattle.update_sink.specs.Promises.{HasDelivered, HasStood, IsKept, IsRunAlone, IsUnstored, stand_of}
+use Rattle.update_sink.specs.Promises.{HasDelivered, HasStood, IsKept, IsRunAlone, IsUnstoredBy, stand_of}
 use Rattle.update_sink.specs.Runs.{IsRun}
 use Rattle.update_sink.specs.Topics.{asked_of, key_of, batches_over, run_of, sink_of}
 use Rattle.update_sink.proofs.DeliveredLemmas.{if-delivered}
@@ -28,7 +28,8 @@ returns-clause-kept g c =
 pub returns-clause-unstored : goal.returns-clause-unstored
 returns-clause-unstored g c =
     let w = g.T.Turns.writer c.args.site.now in
-    subst (λ (x : Writer). OnErr c.run_delivery-result.result (IsUnstored w x))
+    subst (λ (x : Writer). IfErr c.run_delivery-result.result
+    (λ stop. IsUnstoredBy (g.T.Turns.layout c.args.site.now).names w x stop.fault))
     (sym c.leave.ensures.writer) c.run_delivery-result.ensures.unstored
 
 pub returns-clause-alone : goal.returns-clause-alone
