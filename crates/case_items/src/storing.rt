@@ -54,8 +54,10 @@ fn source_of<T: Turns>(alloc: Global, site: &mut T, key: &TopicKey) -> Result<Op
     ensures home { T.home site.new ≡ T.home site.old }
 {
     let book = book_cell(site.names());
-    site.look(book)?;
-    source_seen(alloc, site, key)
+    match site.look(book) {
+        Ok(()) => source_seen(alloc, site, key),
+        Err(_) => Err(Memory::OutOfMemory),
+    }
 }
 
 // Whether the part is of this shard, and the number at most its top.

@@ -12,7 +12,7 @@ use Rattle.exchange_rules.specs.Following.{Follows, Reaches, Writer, counts}
 use Rattle.exchange_rules.specs.Own.{steps_at}
 use Rattle.exchange_rules.specs.Rows.{cut_course, cut_shards, part_of}
 use Rattle.exchange_rules.specs.declared.fault.SiteFault.{SiteFault}
-use Rattle.exchange_rules.specs.declared.fault.SiteFault.TheVariants.{ShardFull, TopicBound, BookFull, OutOfMemory}
+use Rattle.exchange_rules.specs.declared.fault.SiteFault.TheVariants.{ShardFull, TopicBound, BookFull, LogFault, CellClosed, OutOfMemory}
 use Rattle.load_rules.specs.Worked.{HasRead}
 use Rattle.load_mix.proofs.AddLemmas.{added_as, added_reached}
 
@@ -50,6 +50,9 @@ read_completed old new p (Ok a) k c = read_reached old new p (ends a) k c.reache
 read_completed old new p (Err (ShardFull collection shard stand)) k c = absurd c
 read_completed old new p (Err (TopicBound kept)) k c = absurd c
 read_completed old new p (Err (BookFull topics)) k c = absurd c
+read_completed old new p (Err (LogFault cell stand)) k c = absurd c
+read_completed old new p (Err (CellClosed cell stand)) k c =
+    read_reached old new p c.0.rest k c.0.stood.reached
 read_completed old new p (Err (OutOfMemory stand)) k c =
     read_reached old new p c.rest k c.stood.reached
 

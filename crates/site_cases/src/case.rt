@@ -45,6 +45,14 @@ fn refusal(alloc: Global, fault: &SiteFault) -> Result<Text, Memory> {
             let topics = *topics;
             format!(in alloc; "BookFull {topics}")?
         }
+        SiteFault::LogFault { cell, stand } => {
+            let (cell, stand) = (*cell, *stand);
+            format!(in alloc; "LogFault {cell} after {stand}")?
+        }
+        SiteFault::CellClosed { cell, stand } => {
+            let (cell, stand) = (*cell, *stand);
+            format!(in alloc; "CellClosed {cell} after {stand}")?
+        }
         SiteFault::OutOfMemory { .. } => return Err(Memory::OutOfMemory),
     };
     Ok(Text::from_string(text))

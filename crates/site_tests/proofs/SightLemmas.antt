@@ -21,7 +21,7 @@ use Rattle.exchange_rules.specs.Rows.{Layout, cut_course}
 use Rattle.exchange_rules.specs.declared.batch.BatchItem.{BatchItem}
 use Rattle.exchange_rules.specs.declared.batch.Sent.{Sent}
 use Rattle.exchange_rules.specs.declared.fault.SiteFault.{SiteFault}
-use Rattle.exchange_rules.specs.declared.fault.SiteFault.TheVariants.{ShardFull, TopicBound, BookFull, OutOfMemory}
+use Rattle.exchange_rules.specs.declared.fault.SiteFault.TheVariants.{ShardFull, TopicBound, BookFull, LogFault, CellClosed, OutOfMemory}
 use Rattle.exchange_rules.proofs.GrowthLemmas.{grows_at, grows_join, grows_same}
 use Rattle.site_laws.specs.SiteCells.{histories_in}
 use Rattle.site_laws.proofs.CellLemmas.{book-append}
@@ -37,6 +37,8 @@ answered-grown old new course (Ok a) h = h.grown
 answered-grown old new course (Err (ShardFull collection shard stand)) h = h.grown
 answered-grown old new course (Err (TopicBound kept)) h = h.grown
 answered-grown old new course (Err (BookFull topics)) h = h.grown
+answered-grown old new course (Err (LogFault cell stand)) h = h.0.stood.reached.grown
+answered-grown old new course (Err (CellClosed cell stand)) h = h.0.stood.reached.grown
 answered-grown old new course (Err (OutOfMemory stand)) h = h.stood.reached.grown
 
 -- so it did in a call that only looks
@@ -46,6 +48,8 @@ completed-grown old new course (Ok a) h = h.reached.grown
 completed-grown old new course (Err (ShardFull collection shard stand)) h = absurd h
 completed-grown old new course (Err (TopicBound kept)) h = absurd h
 completed-grown old new course (Err (BookFull topics)) h = absurd h
+completed-grown old new course (Err (LogFault cell stand)) h = absurd h
+completed-grown old new course (Err (CellClosed cell stand)) h = h.0.stood.reached.grown
 completed-grown old new course (Err (OutOfMemory stand)) h = h.stood.reached.grown
 
 -- a topic that was bound has the source and the destination of its binding

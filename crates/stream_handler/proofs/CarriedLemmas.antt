@@ -12,7 +12,7 @@ use Rattle.exchange_rules.specs.Following.{Writer, Answers, Begins}
 use Rattle.exchange_rules.specs.Calls.{Answered, Carried}
 use Rattle.exchange_rules.specs.Rows.{Layout}
 use Rattle.exchange_rules.specs.declared.fault.SiteFault.{SiteFault}
-use Rattle.exchange_rules.specs.declared.fault.SiteFault.TheVariants.{ShardFull, TopicBound, BookFull, OutOfMemory}
+use Rattle.exchange_rules.specs.declared.fault.SiteFault.TheVariants.{ShardFull, TopicBound, BookFull, LogFault, CellClosed, OutOfMemory}
 use Rattle.expr_types.specs.ExprTree.{ExprTree}
 use Rattle.stream_handler.specs.Outcomes.{exception}
 use Rattle.topic_book.specs.Fitness.{shards_of}
@@ -139,6 +139,12 @@ index_refused old new p (BookFull topics) (Ok o) s e =
     first_answered old new p (λ r. ends (indexed r)) (Err (BookFull topics)) o (ap ends (sym e)) s
 index_refused old new p (BookFull topics) (Err memory) s e =
     first_done old new p (λ r. ends (indexed r)) (Err (BookFull topics)) s
+index_refused old new p (LogFault cell stand) (Ok o) s e = absurd e
+index_refused old new p (LogFault cell stand) (Err memory) s e =
+    first_stopped old new p (λ r. ends (indexed r)) (OutOfMemory stand) s.0
+index_refused old new p (CellClosed cell stand) (Ok o) s e = absurd e
+index_refused old new p (CellClosed cell stand) (Err memory) s e =
+    first_stopped old new p (λ r. ends (indexed r)) (OutOfMemory stand) s.0
 index_refused old new p (OutOfMemory stand) (Ok o) s e = absurd e
 index_refused old new p (OutOfMemory stand) (Err memory) s e =
     first_stopped old new p (λ r. ends (indexed r)) (OutOfMemory stand) s
@@ -153,6 +159,8 @@ full_told (ShardFull collection shard stand) full text is told =
     (sym (same_Some _ full is)))
 full_told (TopicBound kept) full text is told = absurd (cc)
 full_told (BookFull topics) full text is told = absurd (cc)
+full_told (LogFault cell stand) full text is told = absurd (cc)
+full_told (CellClosed cell stand) full text is told = absurd (cc)
 full_told (OutOfMemory stand) full text is told = absurd (cc)
 
 -- a collection that isn't there is told so

@@ -8,7 +8,7 @@ use Rattle.exchange_rules.specs.Following.{Writer, Answers, Begins}
 use Rattle.exchange_rules.specs.Looking.{LooksFirst}
 use Rattle.exchange_rules.specs.Rows.{Layout, index_course}
 use Rattle.exchange_rules.specs.declared.fault.SiteFault.{SiteFault}
-use Rattle.exchange_rules.specs.declared.fault.SiteFault.TheVariants.{ShardFull, TopicBound, BookFull, OutOfMemory}
+use Rattle.exchange_rules.specs.declared.fault.SiteFault.TheVariants.{ShardFull, TopicBound, BookFull, LogFault, CellClosed, OutOfMemory}
 use Rattle.form_request.specs.Params.{first_value}
 use Rattle.form_request.specs.declared.request.Handler.{Handler}
 use Rattle.form_request.specs.declared.request.Handler.TheVariants.{Stream, Update}
@@ -36,12 +36,15 @@ use Rattle.stream_handler.specs.declared.outcome.Outcome.TheVariants.{Indexed, R
 use Rattle.stream_handler.specs.declared.starting.NewDaemon.{NewDaemon}
 use Rattle.stream_handler.specs.declared.update.FullShard.{FullShard}
 
--- an update that was carried out, or its refusal; no topic is bound by an update
+-- an update that was carried out, or its refusal; no topic is bound by an update, and neither want of
+-- memory nor a log's fault is told
 abbrev pub indexed : Result ℕ SiteFault → Outcome
 indexed (Ok writes) = Indexed
 indexed (Err (ShardFull collection shard stand)) = Refused 507 (full_text collection shard stand)
 indexed (Err (TopicBound kept)) = Refused 507 (codes "TopicBound")
 indexed (Err (BookFull topics)) = Refused 507 (codes "BookFull")
+indexed (Err (LogFault cell stand)) = Refused 507 (codes "out of memory")
+indexed (Err (CellClosed cell stand)) = Refused 507 (codes "out of memory")
 indexed (Err (OutOfMemory stand)) = Refused 507 (codes "out of memory")
 
 -- the full shard that a refusal names, and none where memory was wanting; an update binds no topic
@@ -50,14 +53,18 @@ full_shard (ShardFull collection shard stand) =
     Some (record { collection = collection; shard = shard; stand = stand })
 full_shard (TopicBound kept) = None
 full_shard (BookFull topics) = None
+full_shard (LogFault cell stand) = None
+full_shard (CellClosed cell stand) = None
 full_shard (OutOfMemory stand) = None
 
--- the answer is the refusal's, which isn't want of memory
+-- the answer is the refusal's, which is neither want of memory nor a log's fault
 abbrev pub IsRefusal : SiteFault → Outcome → Type 0
 IsRefusal (ShardFull collection shard stand) o =
     o ≡ indexed (Err (ShardFull collection shard stand))
 IsRefusal (TopicBound kept) o = o ≡ indexed (Err (TopicBound kept))
 IsRefusal (BookFull topics) o = o ≡ indexed (Err (BookFull topics))
+IsRefusal (LogFault cell stand) o = ⊥
+IsRefusal (CellClosed cell stand) o = ⊥
 IsRefusal (OutOfMemory stand) o = ⊥
 
 -- the answer is the refusal of a body, whose fault isn't want of memory

@@ -23,8 +23,9 @@ pub(crate) struct FullShard {
     stand: u64,
 }
 
-// The full shard that a refusal names, and none where memory was wanting; an update binds no topic. It
-// takes no memory, so neither can be told as the other.
+// The full shard that a refusal names, and none where memory was wanting; an update binds no topic. No
+// site has logs yet: a log's fault ends it as want of memory does. It takes no memory, so neither can be
+// told as the other.
 fn full_shard(fault: SiteFault) -> Option<FullShard>
     ensures { result ≡ full_shard fault }
 {
@@ -38,8 +39,11 @@ fn full_shard(fault: SiteFault) -> Option<FullShard>
             shard,
             stand,
         }),
-        SiteFault::TopicBound { .. } | SiteFault::BookFull { .. } | SiteFault::OutOfMemory { .. } =>
-            None,
+        SiteFault::TopicBound { .. }
+        | SiteFault::BookFull { .. }
+        | SiteFault::LogFault { .. }
+        | SiteFault::CellClosed { .. }
+        | SiteFault::OutOfMemory { .. } => None,
     }
 }
 

@@ -16,17 +16,17 @@ source_seen-requires g c =
     subst (g.T.Turns.holds c.look.new.self)
     (c.book_cell-book.ensures
     ∙ (ap book_cell c.names.ensures.names
-    ∙ ap (λ (x : Layout). book_cell x.names) (sym c.in_ok-look.ensures.layout)))
-    c.in_ok-look.ensures.holds
+    ∙ ap (λ (x : Layout). book_cell x.names) (sym c.in-Ok.ensures.layout)))
+    c.in-Ok.ensures.holds
 
-pub returns-clause-found : goal.returns-clause-found
-returns-clause-found g c =
+pub returns-in-Ok-clause-found : goal.returns-in-Ok-clause-found
+returns-in-Ok-clause-found g c =
     subst (λ (x : Layout). IfOk c.source_seen.result (λ source. IfSome source (λ src.
     IsBoundNowhere c.args.key.now src (book_seen x (g.T.Turns.writer c.look.new.self)))))
-    c.in_ok-look.ensures.layout c.source_seen.ensures.found
+    c.in-Ok.ensures.layout c.source_seen.ensures.found
 
-pub returns-clause-absent : goal.returns-clause-absent
-returns-clause-absent g c =
+pub returns-in-Ok-clause-absent : goal.returns-in-Ok-clause-absent
+returns-in-Ok-clause-absent g c =
     subst (λ (x : Layout). IfOk c.source_seen.result (λ source. IfNone source ((src : ByteList)
     → ¬ (IsBoundNowhere c.args.key.now src (book_seen x (g.T.Turns.writer c.look.new.self))))))
-    c.in_ok-look.ensures.layout c.source_seen.ensures.absent
+    c.in-Ok.ensures.layout c.source_seen.ensures.absent
