@@ -4,3 +4,8 @@ pub mod WrittenLemmas
 pub mod SentLemmas
 pub mod FirstLemmas
 pub mod RightLemmas
+pub mod IdSetLemmas
+pub mod WalkLemmas
+pub mod TopicLemmas
+pub mod CoverageLemmas
+pub mod UncoveredLemmas

@@ -1,10 +1,10 @@
 -- What was sent before an entry, and whether a Mark follows it.
-use Rattle.std.proofs.Common.{◌≡◌, ℕ, zero, suc, ◌<◌, ◌≤◌, ◌&&◌, ◌||◌, not, Bool, true, false, cond, ltb, List, [], ◌∷◌, ◌++◌, length, take, drop, Option, Some, None, refl, sym, ap, subst, ◌∙◌, arith, bytes_eq, Decides, inl, inr, Result, Ok, Err, OnOk}
+use Rattle.std.proofs.Common.{◌≡◌, ℕ, zero, suc, ◌<◌, ◌&&◌, ◌||◌, not, Bool, true, false, cond, ltb, List, [], ◌∷◌, ◌++◌, length, drop, Option, Some, None, refl, sym, ap, subst, ◌∙◌, arith, bytes_eq, Decides, inl, inr, Result, Ok, Err, OnOk}
 use Rattle.std.specs.List.{AllByRecursion}
 use Rattle.std.proofs.lemmas.Bool.{false≢true, lt-ltb}
 use Rattle.std.proofs.lemmas.Bool.Decides.{nat_tests}
 use Rattle.std.proofs.lemmas.Cmp.{nat_list_eq_equiv}
-use Rattle.std.proofs.lemmas.List.{take_all, append-nil}
+use Rattle.std.proofs.lemmas.List.{append-nil}
 use Rattle.tuple_values.specs.Document.{ByteList, Doc}
 use Rattle.tuple_values.specs.declared.names.NameShards.{NameShards}
 use Rattle.shard_versions.specs.Documents.{id_of}
@@ -12,7 +12,7 @@ use Rattle.shard_versions.specs.declared.entry.Kind.{Kind}
 use Rattle.shard_versions.specs.declared.entry.Kind.TheVariants.{Sent}
 use Rattle.shard_versions.specs.declared.entry.Entry.{Entry}
 use Rattle.shard_versions.specs.Histories.{History, is_mark, has_mark, settled}
-use Rattle.shard_versions.specs.Deliveries.{sent_version, sents, are_below, is_plain}
+use Rattle.shard_versions.specs.Deliveries.{sent_version, sents, are_below, is_plain, admits}
 use Rattle.shard_versions.specs.Indexes.{greater, greatest}
 use Rattle.shard_versions.proofs.IndexLemmas.{greatest-push, passes, are_below-greatest}
 use Rattle.shard_versions.proofs.DeliveryLemmas.{sents-append, sent_version-plain, are_below-each}
@@ -22,18 +22,6 @@ use Rattle.law_checks.specs.Sents.{IsBadSent}
 use Rattle.law_checks.specs.Numbers.{number_at, same_place}
 use Rattle.law_checks.specs.Judged.{IsSentJudged, IsKindJudged, AreSentUpTo, is_over}
 use Rattle.law_checks.specs.declared.greatest.Greatest.{Greatest}
-
--- at the end the entries up to the last Mark are those of all
-pub closed-end : (h : History) (i closed : ℕ) → length h ≤ i → closed ≡ length (settled (take i h)) → closed ≡ length (settled h)
-closed-end h i closed le e = e ∙ ap (λ s. length (settled s)) (take_all i h le)
-
--- nothing is settled of nothing
-pub closed-begins : 0 ≡ length (settled [])
-unfolding settled
-closed-begins = refl
-
--- what the count of settled entries needs
-pub ruleset closed_steps = (closed-end, closed-begins)
 
 -- where there is no Mark nothing is settled
 settled-none : (h : History) → has_mark h ≡ false → settled h ≡ []
@@ -143,11 +131,6 @@ on_ok P Q f (Err e) p = tt
 
 module _ (names : List NameShards) (hs : Histories) (cell : ℕ) (before : History) (src : ByteList) (version : ℕ) (doc : Doc)
     (later : History) where
-  -- a Sent that no Mark follows
-  pub judged-open : (settled : Bool) → settled ≡ has_mark later → settled ≡ false
-      → IsBadSent names hs cell before src version doc later
-  judged-open settled is e = inl (sym is ∙ e)
-
   -- one whose version isn't above those that were sent
   pub judged-low : (r : Bool) → Decides r (AllByRecursion (λ v. v < version) (sents src (id_of doc) before)) → r ≡ false
       → IsBadSent names hs cell before src version doc later
@@ -171,3 +154,15 @@ judged-kind names hs cell before src s version doc later kind true is same j =
 judged-kind names hs cell before src s version doc later kind false is same j =
     subst (λ k. IsKindJudged false names hs cell before k later) (sym is)
     (subst (λ x. IsSentJudged false names hs cell before x version doc later) same j)
+
+-- whether a version is admitted behind what was sent
+pub over-admits : (g : Greatest) (h now : History) (src id : ByteList) (v : ℕ) (r : Bool) → AreSentUpTo g h → h ≡ now
+    → r ≡ is_over v (number_at g src id 0) → r ≡ admits now src id v
+unfolding admits
+over-admits g h now src id v r sent same is =
+    is ∙ (ap (is_over v) (sent src id) ∙ (passed (greatest (sents src id h)) ∙ (sym (are_below-greatest v (sents src id h))
+    ∙ ap (λ x. are_below v (sents src id x)) same)))
+  where
+    passed : (o : Option ℕ) → is_over v o ≡ passes v o
+    passed None = refl
+    passed (Some w) = refl

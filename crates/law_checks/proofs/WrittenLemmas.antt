@@ -91,5 +91,3 @@ found-zero id h version e = go (write_at version (slots_after 0 h)) refl
     go : (o : Option Slot) → write_at version (slots_after 0 h) ≡ o → None ≡ left_under id o
     go None w = refl
     go (Some s) w = absurd (let above : 0 < version = write-above version 0 s (slots_after 0 h) (slots_after-ascend 0 h) w in omega arith)
-
--- a write is one of the writes

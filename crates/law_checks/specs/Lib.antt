@@ -5,3 +5,7 @@ pub mod Breaches
 pub mod Numbers
 pub mod Written
 pub mod Judged
+pub mod Walks
+pub mod Topics
+pub mod Sights
+pub mod Firsts

@@ -5,7 +5,7 @@ ghost use Rattle.law_checks.specs.Sents.{IsFirstBadSent};
 ghost use Rattle.law_checks.specs.Judged.{IsFirstIn};
 
 use crate::greatest::Greatest;
-use crate::judging::{Around, is_bad, settled_count, tell};
+use crate::judging::{Around, is_bad, settled, tell};
 use crate::written::{Written, written_of};
 use once_core::Histories;
 use shard_versions::Entry;
@@ -22,7 +22,7 @@ fn first_bad_in<'b, 'a>(
     ensures { IfOk result (λ bad. (hs : Histories) (cell : ℕ) → shards.now ≡ hs.shards
         → IsFirstIn names.now hs cell history.now bad) }
 {
-    let closed = settled_count(history);
+    let closed = settled(history).len();
     let mut sent = Greatest::none(alloc);
     for (at, entry) in history.iter().enumerate() {
         let around = Around {

@@ -1,5 +1,5 @@
 // Whether a Sent breaks the law, by what stands before and behind it.
-ghost use Rattle.std.specs.Prelude.{◌≡◌, ◌++◌, ◌∷◌, [], ℕ, Decides, List, OnOk, length};
+ghost use Rattle.std.specs.Prelude.{◌≡◌, ◌++◌, ◌∷◌, [], ℕ, Decides, List, OnOk};
 ghost use Rattle.tuple_values.specs.declared.names.NameShards.{NameShards};
 ghost use Rattle.shard_versions.specs.Documents.{id_of};
 ghost use Rattle.once_core.specs.Cells.{home_history};
@@ -17,10 +17,10 @@ use crate::written::{Written, home};
 use shard_versions::{Entry, Kind, id_of};
 use tuple_values::{Memory, NameShards, Tuple};
 
-/// How many entries there are up to the last Mark.
-#[tactic(auto, using(shard_versions::proofs::ReadingLemmas::settled_steps, crate::proofs::SentLemmas::closed_steps))]
-pub(crate) fn settled_count(history: &[Entry]) -> usize
-    ensures { result ≡ length (settled history.now) }
+/// The entries up to the last Mark.
+#[tactic(auto, using(shard_versions::proofs::ReadingLemmas::settled_steps))]
+pub(crate) fn settled(history: &[Entry]) -> &[Entry]
+    ensures { result.now ≡ settled history.now }
 {
     let mut closed = 0;
     for (at, entry) in history.iter().enumerate() {
@@ -28,7 +28,7 @@ pub(crate) fn settled_count(history: &[Entry]) -> usize
             closed = at + 1;
         }
     }
-    closed
+    &history[..closed]
 }
 
 /// Whether no version of the source and id was sent, or the version is above each that was.

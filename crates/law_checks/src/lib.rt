@@ -4,11 +4,18 @@
 mod bad_sents;
 mod breach;
 mod cells;
+mod coverage;
 mod greatest;
+mod id_set;
 mod judging;
 mod kinds;
 mod origin;
+mod sight;
+mod topics;
+mod uncovered;
+mod walk;
 mod written;
 
 pub use bad_sents::first_bad_sent;
 pub use breach::Breach;
+pub use uncovered::first_uncovered;

@@ -1,5 +1,5 @@
-use Rattle.std.proofs.Common.{arith, ◌≡◌, ◌+◌, ◌∙◌, ltb, take, drop, refl, ap, sym}
-use Rattle.shard_versions.specs.Histories.{has_mark}
+use Rattle.std.proofs.Common.{length, arith, ◌≡◌, ◌+◌, ◌∙◌, ltb, take, drop, refl, ap, sym}
+use Rattle.shard_versions.specs.Histories.{History, has_mark}
 use Rattle.law_checks.proofs.SentLemmas.{mark-behind, told-none}
 use Rattle.law_checks.proofs.FirstLemmas.{first-here, first-on, first-end, sent-more}
 use Rattle.law_checks.proofs.bad_sents.first_bad_in.Goals as goal
@@ -14,8 +14,8 @@ pub returns-then-is_bad : goal.returns-then-is_bad
 returns-then-is_bad c = λ hs cell same.
     let h = c.args.history.now in
     let at = c.loop-at.at in
-    let marked : ltb (at + 1) c.settled_count-closed.result ≡ has_mark (drop (at + 1) h) =
-    ap (ltb (at + 1)) c.settled_count-closed.ensures ∙ sym (mark-behind (at + 1) h) in
+    let marked : ltb (at + 1) (length c.settled-closed.result.now) ≡ has_mark (drop (at + 1) h) =
+    ap (λ (s : History). ltb (at + 1) (length s)) c.settled-closed.ensures ∙ sym (mark-behind (at + 1) h) in
     first-here c.args.names.now hs cell h at c.index-history-at.result c.loop-at-test.true c.index-history-at.is
     (rw c.if-is_bad.true at (c.is_bad.ensures hs cell (take at h) (drop (at + 1) h) same c.loop-at.invariant.sent marked))
     (c.loop-at.invariant.good hs cell same)
@@ -24,8 +24,8 @@ pub loop-at-preserved : goal.loop-at-preserved
 loop-at-preserved c =
     let h = c.args.history.now in
     let at = c.loop-at.at in
-    let marked : ltb (at + 1) c.settled_count-closed.result ≡ has_mark (drop (at + 1) h) =
-    ap (ltb (at + 1)) c.settled_count-closed.ensures ∙ sym (mark-behind (at + 1) h) in
+    let marked : ltb (at + 1) (length c.settled-closed.result.now) ≡ has_mark (drop (at + 1) h) =
+    ap (λ (s : History). ltb (at + 1) (length s)) c.settled-closed.ensures ∙ sym (mark-behind (at + 1) h) in
     record {
       sent = sent-more c.tell.new.sent h at c.index-history-at.result c.loop-at-test.true c.index-history-at.is
           (c.in_ok-tell.ensures (take at h) c.index-history-at.result refl c.loop-at.invariant.sent);
