@@ -9,3 +9,4 @@ pub mod WalkLemmas
 pub mod TopicLemmas
 pub mod CoverageLemmas
 pub mod UncoveredLemmas
+pub mod BreachLemmas

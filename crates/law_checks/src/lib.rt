@@ -3,6 +3,7 @@
 
 mod bad_sents;
 mod breach;
+mod breaches;
 mod cells;
 mod coverage;
 mod greatest;
@@ -18,4 +19,5 @@ mod written;
 
 pub use bad_sents::first_bad_sent;
 pub use breach::Breach;
+pub use breaches::{breaches_exclude_the_law, first_breach};
 pub use uncovered::first_uncovered;
