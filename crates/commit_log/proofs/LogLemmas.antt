@@ -1,5 +1,6 @@
 -- What a log knows after a call, from what it knew before (own).
 use Rattle.std.proofs.Common.{◌≡◌, inl, inr, ℕ, ◌+◌, ◌<◌, ◌≤◌, ◌^◌, List, [], ◌∷◌, ◌++◌, length, Option, Some, None, refl, sym, ◌∙◌, ap, subst, arith}
+use denote.Struct.Props.{props}
 use Rattle.std.proofs.lemmas.Option.{same_Some}
 use Rattle.disk_edge.specs.Disk.{IfTold, Only}
 use Rattle.commit_log.specs.Frames.{at_rest, end_of}
@@ -20,7 +21,21 @@ halfway-long steps step file (inl was) = omega (arith, ap length was.1, length-c
 halfway-long steps step file (inr was) = omega
     (arith, ap length was, length-open (bodies_of steps) (body_of step))
 
+-- how long a told file is has one proof
+pub told-long-prop : (told : Option (List ℕ)) (n : ℕ) → IsProp (IfTold told (λ c. n ≤ length c))
+told-long-prop None n = search props
+told-long-prop (Some c) n = search props
+
 module _ {D : Type 0} (seen : D → Option (List ℕ)) (may_leave : D → List ℕ → Type 0) where
+  -- the file of a settled log reaches behind its last byte
+  pub settled-long : (steps : List Step) (log : Log D)
+      → IsSettled seen may_leave steps log → IfTold (seen log.disk) (λ c. log.end + 1 ≤ length c)
+  settled-long steps log s = if-all (seen log.disk)
+      (λ x. (x ≡ file_of steps) × Only x (may_leave log.disk))
+      (λ c. log.end + 1 ≤ length c) s.told
+      (λ file p. subst (λ (n : ℕ). n + 1 ≤ length file) (sym s.place)
+      (halfway-long steps [] file (inl ([], p.0))))
+
   -- the disk of a settled log, where it tells
   pub settled-has : (steps : List Step) (log : Log D) (file : List ℕ)
       → IsSettled seen may_leave steps log → seen log.disk ≡ Some file

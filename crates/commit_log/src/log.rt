@@ -117,7 +117,7 @@ impl<D: Disk> Log<D> {
 
     /// Appends a step, which at `Ok` is on the disk. Takes no memory.
     pub fn append(&mut self, step: &Spelled) -> Result<(), DiskFailed>
-        requires settled { (steps : List Step) × IsSettled D.seen D.may_leave steps self.old }
+        requires settled { ∥ ((steps : List Step) × IsSettled D.seen D.may_leave steps self.old) ∥₁ }
         requires place { HasPlace self.old step.now }
         ensures settled { OnOk result ((steps : List Step) (entries : Step)
             → IsSpelled entries step.now → IsSettled D.seen D.may_leave steps self.old
@@ -151,8 +151,8 @@ impl<D: Disk> Log<D> {
     /// Opens the file again after an append that failed, and tells whether the step of that append
     /// stands. After an error the log is shut. Takes no memory.
     pub fn reopen(&mut self) -> Result<bool, DiskFailed>
-        requires { (steps : List Step) × (step : Step)
-            × IsInFlight D.seen D.may_leave steps step self.old }
+        requires { ∥ ((steps : List Step) × (step : Step)
+            × IsInFlight D.seen D.may_leave steps step self.old) ∥₁ }
         ensures settled { IfOk result (λ stands. (steps : List Step) (step : Step)
             → IsInFlight D.seen D.may_leave steps step self.old
             → IsSettled D.seen D.may_leave (settled steps step stands) self.new) }

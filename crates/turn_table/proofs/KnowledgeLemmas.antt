@@ -178,7 +178,7 @@ module _ {A E : Type 0} where
       subst (λ (z : View A E × TableId). length z.0.faults ≡ z.1.slots)
       (λ i. (sym view i, sym table i)) long
 
-has_risen-rose : (word faults : ℕ) → Rose word faults → has_risen word faults ≡ true
+pub has_risen-rose : (word faults : ℕ) → Rose word faults → has_risen word faults ≡ true
 has_risen-rose word faults rose = tested (nat_lt word faults) refl
   where
     or_true : (b : Bool) → b || true ≡ true

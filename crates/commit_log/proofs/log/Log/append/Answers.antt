@@ -1,12 +1,17 @@
 use Rattle.std.proofs.Common.{◌≡◌, ◌<◌, ◌-◌, ◌^◌, [], ◌∷◌, ◌++◌, length, inl, ◌∙◌, arith}
+use Rattle.std.proofs.Math.Logic.{∥∥₁_elim}
 use Rattle.log_codec.specs.Steps.{body_of}
 use Rattle.commit_log.specs.Frames.{sized}
 use Rattle.commit_log.specs.Steps.{bodies_of}
 use Rattle.commit_log.specs.Stops.{Halfway}
-use Rattle.commit_log.proofs.LogLemmas.{appended, in-flight, settled-has}
+use Rattle.commit_log.proofs.LogLemmas.{appended, in-flight, settled-has, settled-long, told-long-prop}
 use Rattle.commit_log.proofs.SpellingLemmas.{length-piece, step-fits}
 use Rattle.commit_log.proofs.StopLemmas.{leaves-only}
 use Rattle.commit_log.proofs.log.Log.append.Goals as goal
+
+pub commit-requires-clause-within : goal.commit-requires-clause-within
+commit-requires-clause-within g c = ∥∥₁_elim c.requires.settled (told-long-prop _ _)
+    (λ x. settled-long g.D.Disk.seen g.D.Disk.may_leave x.0 c.args.self.now x.1)
 
 pub returns-in-Ok-clause-settled : goal.returns-in-Ok-clause-settled
 returns-in-Ok-clause-settled g c = λ steps entries is s.
