@@ -45,3 +45,14 @@ abbrev pub IsUnadded : Type 0 → Book → BookEntry → (old made : Writer) →
     → Type 0
 IsUnadded Fits book e old made cell new (entry.Book f) = IsCauseOf book e f × (new ≡ old)
 IsUnadded Fits book e old made cell new entry.Broken = Fits × IsBroken old made cell 0 0 new
+
+-- the writer has the turn still where nothing was written, and has given it back where the log failed
+abbrev pub StaysWith : (Holds Free : Type 0) → StepRefusal → Type 0
+StaysWith Holds Free step.ShardFull = Holds
+StaysWith Holds Free (step.Broken writes) = Free
+StaysWith Holds Free step.OutOfMemory = Holds
+
+-- the same of an entry
+abbrev pub StaysWithEntry : (Holds Free : Type 0) → EntryRefusal → Type 0
+StaysWithEntry Holds Free (entry.Book f) = Holds
+StaysWithEntry Holds Free entry.Broken = Free

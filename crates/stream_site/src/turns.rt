@@ -25,7 +25,7 @@ pub trait Turns {
     ghost use Rattle.site_laws.specs.Duties.{MayDeliver, MayAppendEntry, MayWrite};
     ghost use Rattle.site_laws.specs.SiteCells.{histories_in};
     ghost use Rattle.stream_site.specs.Lone.{IsAllOwn};
-    ghost use Rattle.stream_site.specs.Refusals.{IsUnadded, IsUnsealed, IsUnseen};
+    ghost use Rattle.stream_site.specs.Refusals.{IsUnadded, IsUnsealed, IsUnseen, StaysWith, StaysWithEntry};
     ghost use Rattle.stream_site.specs.Rooms.{MayWant};
 
     /// Where the writer is: it stays there.
@@ -129,7 +129,8 @@ pub trait Turns {
             (λ s. s ≡ shown_of (history_in (get_or (writer self.now).seen cell []))) };
 
     /// Appends the writer's step right behind what it has seen of the cell. Where the append to the
-    /// cell's log fails, the step stands or it doesn't. The room for looks stays.
+    /// cell's log fails, the step stands or it doesn't, and the turn is given back. The room for looks
+    /// stays.
     fn seal(&mut self, cell: u32, step: Step) -> Result<(), StepRefusal>
         requires in_range { HasCell (layout self.old) (writer self.old) cell }
         requires holds { holds self.old cell }
@@ -146,13 +147,15 @@ pub trait Turns {
             ↔ (is_full (layout self.old).limit (history_in (get_or (writer self.old).seen cell []))
             (kinds_of step) ≡ true) }
         ensures room { room self.new ≡ room self.old }
-        ensures holds { holds self.new cell }
+        ensures holds { OnOk result (holds self.new cell) }
+        ensures turn { IfErr result (StaysWith (holds self.new cell) (free self.new)) }
         ensures layout { layout self.new ≡ layout self.old }
         ensures home { home self.new ≡ home self.old };
 
     /// Appends those entries of a step of deliveries that what was seen of the cell admits, and a
     /// Mark behind them; nothing where none is admitted. The answer is how many are. Where the append
-    /// to the cell's log fails, they stand or they don't. The room for looks stays.
+    /// to the cell's log fails, they stand or they don't, and the turn is given back. The room for looks
+    /// stays.
     fn deliver(&mut self, cell: u32, step: Step) -> Result<u64, StepRefusal>
         requires in_range { HasCell (layout self.old) (writer self.old) cell }
         requires holds { holds self.old cell }
@@ -180,7 +183,8 @@ pub trait Turns {
             (admitted_kinds (history_in (get_or (writer self.old).seen cell [])) (kinds_of step))
             ≡ true }
         ensures room { room self.new ≡ room self.old }
-        ensures holds { holds self.new cell }
+        ensures holds { OnOk result (holds self.new cell) }
+        ensures turn { IfErr result (StaysWith (holds self.new cell) (free self.new)) }
         ensures layout { layout self.new ≡ layout self.old }
         ensures home { home self.new ≡ home self.old };
 
@@ -207,7 +211,8 @@ pub trait Turns {
             ≡ raises key.now (book_seen (layout self.now) (writer self.now)) upto.now };
 
     /// Adds the writer's entry right behind what it has seen of the book. Where the append to the
-    /// book's log fails, the entry stands or it doesn't. The room for looks stays.
+    /// book's log fails, the entry stands or it doesn't, and the turn is given back. The room for looks
+    /// stays.
     fn append_entry(&mut self, entry: BookEntry) -> Result<(), EntryRefusal>
         requires holds { holds self.old (book_cell (layout self.old).names) }
         requires allowed { MayAppendEntry (layout self.old).names (writer self.old).me
@@ -222,7 +227,9 @@ pub trait Turns {
             (made (writer self.old) (book_cell (layout self.old).names) (payload_of entry ∷ []))
             (book_cell (layout self.old).names) (writer self.new)) }
         ensures room { room self.new ≡ room self.old }
-        ensures holds { holds self.new (book_cell (layout self.old).names) }
+        ensures holds { OnOk result (holds self.new (book_cell (layout self.old).names)) }
+        ensures turn { IfErr result (StaysWithEntry
+            (holds self.new (book_cell (layout self.old).names)) (free self.new)) }
         ensures layout { layout self.new ≡ layout self.old }
         ensures home { home self.new ≡ home self.old };
 
