@@ -14,8 +14,9 @@ use Rattle.exchange_rules.specs.Own.{by_writer}
 use Rattle.turn_table.specs.Histories.{GrewBy}
 use Rattle.stream_site.specs.Logs.{logs_in}
 use Rattle.site_cells.specs.Cells.{no_logs}
-use Rattle.site_cells.specs.declared.site_cell.SiteCell.{SiteCell}
-use Rattle.running_site.specs.Passes.{new_writer, number_of, numbers_to, writer_of, TablePass}
+use Rattle.running_site.specs.Plain.{SiteCell}
+use Rattle.running_site.specs.Passes.{new_writer, number_of, numbers_to, writer_of}
+use Rattle.running_site.specs.Plain.{TablePass}
 use Rattle.running_site.specs.declared.pass.PassOf.{PassOf}
 use Rattle.running_site.specs.declared.site.SiteOf.{SiteOf}
 use Rattle.load_rules.specs.Finished.{AreFinished, FinishedLoadsAreMade, HasEnded, HasWorked, IsEndOf, IsFinished, IsNew, load_roles}

@@ -21,7 +21,8 @@ use Rattle.expr_types.specs.contracts.item.Metric as Metric
 use Rattle.expr_types.specs.contracts.expr.Expr as Expr
 use Rattle.expr_check.specs.contracts.order.Order as Order
 use Rattle.expr_check.specs.contracts.checked.Checked as Checked
-use Rattle.site_cells.specs.contracts.site_cell.SiteCell as SiteCell
+use Rattle.disk_edge.specs.contracts.memory_disk.MemoryDisk as MemoryDisk
+use Rattle.logged_cells.specs.contracts.logged_cell.LoggedCell as LoggedCell
 use Rattle.turn_table.specs.contracts.pass.Pass as TablePass
 use Rattle.running_site.proofs.SendLemmas.{cell_send}
 use Rattle.running_site.specs.contracts.pass.PassOf as PassOf
@@ -109,12 +110,12 @@ pub plan_sync : IsSync Plan.the_row
 plan_sync = search (checked_sync, heap.crosses, sendable) depth 60 fits 20000
 
 -- a pass of a site, whatever is told of its cells and of their entries
-table_pass_send : (A E : RattleType) → IsSend (TablePass.the_row SiteCell.the_row A E)
+table_pass_send : (A E : RattleType) → IsSend (TablePass.the_row (LoggedCell.the_row MemoryDisk.the_row) A E)
 table_pass_send A E =
     search (cell_send, seat.the_send, heap.crosses, sendable) depth 60 fits 20000
 
 pub pass_send : (A E : RattleType)
-    → IsSend (PassOf.the_row (TablePass.the_row SiteCell.the_row A E))
+    → IsSend (PassOf.the_row (TablePass.the_row (LoggedCell.the_row MemoryDisk.the_row) A E))
 pass_send A E = search (table_pass_send, heap.crosses, sendable) depth 60 fits 20000
 
 -- a worker, by what it holds

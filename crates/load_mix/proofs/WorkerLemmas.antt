@@ -4,8 +4,9 @@ use Rattle.std.specs.Prelude.{All, slice_index_or}
 use Rattle.std.specs.List.{AllZip}
 use Rattle.std.proofs.lemmas.List.{length_push}
 use Rattle.std.proofs.lemmas.List.Elements.{All-nil, All-cons, All-head, All-tail, All-map}
-use Rattle.site_cells.specs.declared.site_cell.SiteCell.{SiteCell}
-use Rattle.running_site.specs.Passes.{IsPassIn, TablePass, layout_in}
+use Rattle.running_site.specs.Plain.{SiteCell}
+use Rattle.running_site.specs.Passes.{IsPassIn, layout_in}
+use Rattle.running_site.specs.Plain.{TablePass}
 use Rattle.running_site.specs.Sites.{IsPassAt, layout_at}
 use Rattle.running_site.specs.declared.pass.PassOf.{PassOf}
 use Rattle.running_site.specs.declared.site.SiteOf.{SiteOf}

@@ -1,6 +1,6 @@
 -- What a cell takes has a spelling, and what a log answers.
 use Rattle.std.proofs.Common.{◌≡◌, Bool, true, false, not, ◌&&◌, List, [], ◌∷◌, refl}
-use Rattle.std.specs.Prelude.{OnOk, Result, Ok, Err, is_some}
+use Rattle.std.specs.Prelude.{OnErr, OnOk, Result, Ok, Err, is_some}
 use Rattle.std.specs.List.{AllByRecursion}
 use Rattle.tuple_values.specs.Document.{Doc, value_at}
 use Rattle.shard_versions.specs.Documents.{has_group, is_storable, version_name}
@@ -54,3 +54,8 @@ sealing_plain (value.Book b) (sealing.Book e) can = (refl, tt)
 pub ok_also : {T E : Type 0} (P Q : Type 0) (r : Result T E) → (P → Q) → OnOk r P → OnOk r Q
 ok_also P Q (Ok x) f h = f h
 ok_also P Q (Err e) f h = tt
+
+-- and what follows from what holds at Err
+pub err_also : {T E : Type 0} (P Q : Type 0) (r : Result T E) → (P → Q) → OnErr r P → OnErr r Q
+err_also P Q (Ok x) f h = tt
+err_also P Q (Err e) f h = f h

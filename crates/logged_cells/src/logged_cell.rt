@@ -1,7 +1,7 @@
 // A cell of a site that may have a log.
-ghost use Rattle.std.specs.Prelude.{◌≡◌, ◌↔◌, None, Some, true};
+ghost use Rattle.std.specs.Prelude.{◌≡◌, ◌↔◌, false, None, Some, true};
 ghost use Rattle.site_cells.specs.Values.{about_of, log_in, IsOverLimit};
-ghost use Rattle.logged_cells.specs.Cells.{about_in, entries_at};
+ghost use Rattle.logged_cells.specs.Cells.{about_in, is_closed, log_of_cell, value_of, IsSettled};
 ghost use Rattle.logged_cells.specs.Steps.{IsInStep};
 
 use crate::LoggedRefusal;
@@ -9,10 +9,12 @@ use crate::writing::{room_alone, room_in};
 use commit_log::Log;
 use disk_edge::Disk;
 use exchange_rules::LogEntry;
+use shard_versions::ShardState;
 use site_cells::CellValue;
 use site_laws::{CellAbout, Sealing};
 use std::alloc::Global;
 use std::snapshot::Snapshot;
+use topic_book::BookState;
 use tuple_values::Names;
 use turn_table::CellState;
 
@@ -39,9 +41,9 @@ impl<D: Disk> CellState for LoggedCell<D> {
     ghost use Rattle.site_laws.specs.Sealings.{entries_of, names_told, MayAppend};
     ghost use Rattle.site_laws.proofs.LookLemmas.{look-covered, look-stays};
     ghost use Rattle.site_laws.proofs.SealingLemmas.{sealing-keeps, sealing-signed};
-    ghost use Rattle.site_cells.specs.Values.{law_of, tells_of, CanReserve, HasRoomFor, IsTaken};
+    ghost use Rattle.site_cells.specs.Values.{law_of, tells_of, CanReserve, IsTaken};
     ghost use Rattle.logged_cells.specs.Answers.{is_broken, is_log_fault, IsCause};
-    ghost use Rattle.logged_cells.specs.Cells.{about_in, entries_at, faults_in, is_shut_in, IsAheadWith, IsInStepWith};
+    ghost use Rattle.logged_cells.specs.Cells.{about_in, faults_of, is_closed, log_of_cell, HasRoom, IsSettled};
 
     type About = CellAbout;
 
@@ -55,22 +57,21 @@ impl<D: Disk> CellState for LoggedCell<D> {
 
     ghost about = { about_in };
 
-    ghost history = { entries_at };
+    ghost history = { log_of_cell };
 
     ghost can_reserve = { λ cell sealing. CanReserve cell.value sealing };
 
-    ghost room = { λ cell by sealing. HasRoomFor cell.value sealing
-        × IsAheadWith D.seen D.may_leave cell.value sealing cell.log };
+    ghost room = { λ cell by sealing. HasRoom D.seen D.may_leave cell sealing };
 
     ghost takes = { λ cell sealing. IsTaken cell.value sealing };
 
     ghost refuses = { λ cell sealing refusal. IsCause cell.value sealing refusal };
 
-    ghost settled = { λ cell. IsInStepWith D.seen D.may_leave cell.value cell.log };
+    ghost settled = { IsSettled D.seen D.may_leave };
 
-    ghost is_shut = { λ cell. is_shut_in cell.log };
+    ghost is_shut = { is_closed };
 
-    ghost fault_count = { λ cell. faults_in D.faults cell.log };
+    ghost fault_count = { faults_of D.faults };
 
     ghost broke = { is_broken };
 
@@ -136,7 +137,7 @@ impl<D: Disk> LoggedCell<D> {
     /// A cell of a site of these collections that has no log.
     pub fn alone(alloc: Global, names: &Names, value: CellValue) -> LoggedCell<D>
         ensures about { about_in result ≡ about_of names.now value }
-        ensures entries { entries_at result ≡ log_in value }
+        ensures entries { log_of_cell result ≡ log_in value }
         ensures log { result.log ≡ None }
     {
         LoggedCell {
@@ -149,10 +150,11 @@ impl<D: Disk> LoggedCell<D> {
 
     /// A cell with a log that has just the value's entries, and waits for nothing.
     pub fn logged(alloc: Global, names: &Names, value: CellValue, log: Log<D>) -> LoggedCell<D>
-        requires { IsInStep D.seen D.may_leave value log }
+        requires { ∥ IsInStep D.seen D.may_leave value log ∥₁ }
         ensures about { about_in result ≡ about_of names.now value }
-        ensures entries { entries_at result ≡ log_in value }
+        ensures entries { log_of_cell result ≡ log_in value }
         ensures log { result.log ≡ Some log }
+        ensures sound { IsSettled D.seen D.may_leave result × (is_closed result ≡ false) }
     {
         LoggedCell {
             alloc,
@@ -173,6 +175,28 @@ impl<D: Disk> LoggedCell<D> {
             log,
         } = self;
         (value, log)
+    }
+
+    /// The shard of a cell that isn't the book's.
+    pub fn shard(&self) -> &ShardState
+        requires { (about_in self.now).is_book ≡ false }
+        ensures { value_of self.now ≡ CellValue.Shard result.now }
+    {
+        match &self.value {
+            CellValue::Shard(shard) => shard,
+            CellValue::Book(_) => unreachable!(),
+        }
+    }
+
+    /// The book of the book's cell.
+    pub fn book(&self) -> &BookState
+        requires { (about_in self.now).is_book ≡ true }
+        ensures { value_of self.now ≡ CellValue.Book result.now }
+    {
+        match &self.value {
+            CellValue::Book(book) => book,
+            CellValue::Shard(_) => unreachable!(),
+        }
     }
 
     /// Whether the counted bytes of the shard pass its limit with those of the step; never of the book.

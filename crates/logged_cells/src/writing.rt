@@ -49,7 +49,7 @@ pub(crate) fn room_alone(value: &mut CellValue, sealing: &Sealing) -> Result<Mad
 
 /// Appends a step to the log, and opens the file again where that fails. Takes no memory.
 fn written<D: Disk>(log: &mut Log<D>, spelled: &Spelled) -> Result<Made, LoggedRefusal>
-    requires settled { (steps : List Step) × IsSettled D.seen D.may_leave steps log.old }
+    requires settled { ∥ ((steps : List Step) × IsSettled D.seen D.may_leave steps log.old) ∥₁ }
     requires spelled { (entries : Step) × IsSpelled entries spelled.now }
     requires place { HasPlace log.old spelled.now }
     ensures stands { OnOk result ((steps : List Step) (entries : Step) → IsSpelled entries spelled.now
@@ -82,13 +82,14 @@ pub(crate) fn room_in<D: Disk>(
     sealing: &Sealing,
 ) -> Result<Made, LoggedRefusal>
     requires can { CanReserve value.old sealing.now }
-    requires settled { IsInStep D.seen D.may_leave value.old log.old }
+    requires settled { ∥ IsInStep D.seen D.may_leave value.old log.old ∥₁ }
     ensures entries { log_in value.new ≡ log_in value.old }
     ensures about { (names : List NameShards) → about_of names value.new ≡ about_of names value.old }
     ensures room { OnOk result (HasRoomFor value.new sealing.now) }
-    ensures ahead { OnOk result (IsAhead D.seen D.may_leave value.new sealing.now log.new) }
+    ensures ahead { OnOk result (∥ IsAhead D.seen D.may_leave value.new sealing.now log.new ∥₁) }
+    ensures sound { OnOk result (is_shut log.new ≡ false) }
     ensures taken { OnOk result (IsTaken value.old sealing.now) }
-    ensures settled { OnErr result (IsInStep D.seen D.may_leave value.new log.new
+    ensures settled { OnErr result (∥ IsInStep D.seen D.may_leave value.new log.new ∥₁
         ⊎ (is_shut log.new ≡ true)) }
     ensures later { D.faults (disk_of log.old) ≤ D.faults (disk_of log.new) }
     ensures broke { IfOk result (λ made. is_broken made ≡ true

@@ -16,8 +16,8 @@ only-one n m listed = elim (cases_eq m n) [
 ]
 
 -- it is its own
-pub alone-own : IsLawOfOnePass
-alone-own table key l pass p one cell =
+pub alone-own : (D : Type 0) → IsLawOfOnePass D
+alone-own D table key l pass p one cell =
     let k = known p.inside in
     let numbers : k.numbers ≡ 1 ∷ [] = p.numbered ∙ one in
     let me : k.number ≡ 1 = only-one 1 k.number

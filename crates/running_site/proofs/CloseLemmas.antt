@@ -21,10 +21,11 @@ use Rattle.turn_table.specs.Histories.{GrewBy}
 use Rattle.turn_table.specs.Knowledge.{IsFree}
 use Rattle.turn_table.specs.declared.rule.Opening.{Opening}
 use Rattle.site_cells.specs.Cells.{abouts_of, no_logs}
-use Rattle.site_cells.specs.Values.{about_book, about_in, about_of, about_shard, log_in, log_of_cell}
+use Rattle.logged_cells.specs.Cells.{about_in, log_of_cell, value_of}
+use Rattle.site_cells.specs.Values.{about_book, about_of, about_shard, log_in}
 use Rattle.site_cells.specs.declared.cell_value.CellValue.{CellValue}
 use Rattle.site_cells.specs.declared.cell_value.CellValue.TheVariants as value
-use Rattle.site_cells.specs.declared.site_cell.SiteCell.{SiteCell}
+use Rattle.logged_cells.specs.declared.logged_cell.LoggedCell.{LoggedCell}
 use Rattle.site_cells.proofs.CellLemmas.{book_in-log_of_book}
 use Rattle.running_site.specs.Passes.{number_of, numbers_to, writer_of, writer_where, IsOpened, IsPassOf, TablePass}
 use Rattle.running_site.specs.Records.{inside_of, passes_in}
@@ -38,24 +39,24 @@ all-of P [] a k d lt = absurd (omega (arith, lt))
 all-of P (x ∷ xs) a zero d lt = a.0
 all-of P (x ∷ xs) a (suc k) d lt = all-of P xs a.1 k d (omega (arith, lt))
 
-module _ (table : TableId) (start : Opening SiteCell) (l : Layout) where
+module _ {D : Type 0} (table : TableId) (start : Opening (LoggedCell D)) (l : Layout) where
   -- what is known of the passes of the table
-  pub record AreInside (passes : List (PassOf TablePass)) : Type 0 where
-    pub own : AllByRecursion (λ (p : TablePass). table_of p ≡ table) (passes_in passes)
-    pub free : AllByRecursion (λ (p : TablePass). IsFree (known p)) (passes_in passes)
-    pub numbers : map (λ (p : TablePass). (known p).number) (passes_in passes)
+  pub record AreInside (passes : List (PassOf (TablePass D))) : Type 0 where
+    pub own : AllByRecursion (λ (p : TablePass D). table_of p ≡ table) (passes_in passes)
+    pub free : AllByRecursion (λ (p : TablePass D). IsFree (known p)) (passes_in passes)
+    pub numbers : map (λ (p : TablePass D). (known p).number) (passes_in passes)
         ≡ map number_of passes
 
   -- each is there
-  inside : (passes : List (PassOf TablePass)) → AllByRecursion (IsPassOf table start l) passes
+  inside : (passes : List (PassOf (TablePass D))) → AllByRecursion (IsPassOf table start l) passes
       → AreInside passes
   inside [] a = record { own = tt; free = tt; numbers = refl }
   inside (pass ∷ passes) a =
       let here = a.0 in
       let rest = inside passes a.1 in
-      let P : List TablePass → Type 0 = λ ps. AllByRecursion (λ (p : TablePass). table_of p ≡ table)
+      let P : List (TablePass D) → Type 0 = λ ps. AllByRecursion (λ (p : TablePass D). table_of p ≡ table)
       (ps ++ passes_in passes) in
-      let Q : List TablePass → Type 0 = λ ps. AllByRecursion (λ (p : TablePass). IsFree (known p))
+      let Q : List (TablePass D) → Type 0 = λ ps. AllByRecursion (λ (p : TablePass D). IsFree (known p))
       (ps ++ passes_in passes) in
       let back = ap inside_of (sym here.there) in
       let same : (known here.inside).number ≡ number_of pass =
@@ -63,12 +64,12 @@ module _ (table : TableId) (start : Opening SiteCell) (l : Layout) where
       record {
         own = subst P back (here.table_is, rest.own);
         free = subst Q back (here.free, rest.free);
-        numbers = subst (λ ps. map (λ (p : TablePass). (known p).number) (ps ++ passes_in passes)
+        numbers = subst (λ ps. map (λ (p : TablePass D). (known p).number) (ps ++ passes_in passes)
             ≡ number_of pass ∷ map number_of passes) back
             (λ i. same i ∷ rest.numbers i);
       }
 
-  pub all-inside : (passes : List (PassOf TablePass)) → All (IsPassOf table start l) passes
+  pub all-inside : (passes : List (PassOf (TablePass D))) → All (IsPassOf table start l) passes
       → AreInside passes
   all-inside passes a = inside passes (each_of (IsPassOf table start l) passes a)
 
@@ -77,35 +78,36 @@ module _ (table : TableId) (start : Opening SiteCell) (l : Layout) where
     abbrev Seen : ℕ → List Log → Type 0
     Seen number seen = GrewBy (λ entry. author_of entry ≢ number) seen logs
 
-    seen-each : (passes : List (PassOf TablePass)) → AllByRecursion (IsPassOf table start l) passes
-        → AllByRecursion (λ (p : TablePass). Seen (known p).number (known p).seen)
+    seen-each : (passes : List (PassOf (TablePass D))) → AllByRecursion (IsPassOf table start l) passes
+        → AllByRecursion (λ (p : TablePass D). Seen (known p).number (known p).seen)
         (passes_in passes)
         → AllByRecursion (λ pass. Seen (number_of pass) (writer_of pass).seen) passes
     seen-each [] a s = tt
     seen-each (pass ∷ passes) a s =
         let here = a.0 in
         let both = subst (λ o. AllByRecursion
-        (λ (p : TablePass). Seen (known p).number (known p).seen)
+        (λ (p : TablePass D). Seen (known p).number (known p).seen)
         (inside_of o ++ passes_in passes)) here.there s in (
           subst (λ o. Seen (writer_where o pass.marks.items pass.own.items).me
               (writer_where o pass.marks.items pass.own.items).seen) (sym here.there) both.0,
           seen-each passes a.1 both.1,
         )
 
-    pub seen-all : (passes : List (PassOf TablePass)) → All (IsPassOf table start l) passes
-        → All (λ (p : TablePass). Seen (known p).number (known p).seen) (passes_in passes)
+    pub seen-all : (passes : List (PassOf (TablePass D))) → All (IsPassOf table start l) passes
+        → All (λ (p : TablePass D). Seen (known p).number (known p).seen) (passes_in passes)
         → All (λ pass. Seen (number_of pass) (writer_of pass).seen) passes
     seen-all passes a s =
         all-of (λ pass. Seen (number_of pass) (writer_of pass).seen) passes
         (seen-each passes (each_of (IsPassOf table start l) passes a)
-        (each_of (λ (p : TablePass). Seen (known p).number (known p).seen) (passes_in passes) s))
+        (each_of (λ (p : TablePass D). Seen (known p).number (known p).seen) (passes_in passes) s))
 
--- the cells with which the site started, by any of its passes
-pub opened-by : (table : TableId) (start : Opening SiteCell) (l : Layout)
-    (passes : List (PassOf TablePass)) → 0 < length passes
-    → All (IsPassOf table start l) passes → IsOpened l.names l.limit start.cells.value
-opened-by table start l [] lt a = absurd (omega (arith, lt))
-opened-by table start l (p ∷ passes) lt a = (a 0 p (omega arith)).opened
+module _ {D : Type 0} where
+  -- the cells with which the site started, by any of its passes
+  pub opened-by : (table : TableId) (start : Opening (LoggedCell D)) (l : Layout)
+      (passes : List (PassOf (TablePass D))) → 0 < length passes
+      → All (IsPassOf table start l) passes → IsOpened l.names l.limit start.cells.value
+  opened-by table start l [] lt a = absurd (omega (arith, lt))
+  opened-by table start l (p ∷ passes) lt a = (a 0 p (omega arith)).opened
 
 -- where each of some numbers is a pass's, there is one
 pub some-pass : (n : ℕ) (numbers : List ℕ) → 0 < n
@@ -129,23 +131,24 @@ book-log names told (value.Shard s) e =
     absurd (let no = ap (λ (a : CellAbout). a.is_book) e in cc)
 book-log names told (value.Book b) e = ap log_of_book (book_in-log_of_book b.entries)
 
--- the logs of the cells are those of their histories
-logs-are : (names : List NameShards) (limit n : ℕ) (cells : List SiteCell)
-    → map about_in cells ≡ replicate n (about_shard names limit) ++ about_book names ∷ []
-    → logs_in (shards_in n (map log_of_cell cells))
-    (book_in (get_or (map log_of_cell cells) n [])) ≡ map log_of_cell cells
-logs-are names limit zero [] e = absurd (cc)
-logs-are names limit zero (c ∷ []) e =
-    let here : about_in c ≡ about_book names = cc in
-    ap (λ log. log ∷ []) (book-log names c.names.value c.value here)
-logs-are names limit zero (c ∷ d ∷ cells) e = absurd (cc)
-logs-are names limit (suc n) [] e = absurd (cc)
-logs-are names limit (suc n) (c ∷ cells) e =
-    let here : about_in c ≡ about_shard names limit = cc in
-    let rest : map about_in cells
-    ≡ replicate n (about_shard names limit) ++ about_book names ∷ [] = cc in
-    (λ i. shard-log names c.names.value limit c.value here i
-    ∷ logs-are names limit n cells rest i)
+module _ {D : Type 0} where
+  -- the logs of the cells are those of their histories
+  logs-are : (names : List NameShards) (limit n : ℕ) (cells : List (LoggedCell D))
+      → map about_in cells ≡ replicate n (about_shard names limit) ++ about_book names ∷ []
+      → logs_in (shards_in n (map log_of_cell cells))
+      (book_in (get_or (map log_of_cell cells) n [])) ≡ map log_of_cell cells
+  logs-are names limit zero [] e = absurd (cc)
+  logs-are names limit zero (c ∷ []) e =
+      let here : about_in c ≡ about_book names = cc in
+      ap (λ log. log ∷ []) (book-log names c.names.value c.value here)
+  logs-are names limit zero (c ∷ d ∷ cells) e = absurd (cc)
+  logs-are names limit (suc n) [] e = absurd (cc)
+  logs-are names limit (suc n) (c ∷ cells) e =
+      let here : about_in c ≡ about_shard names limit = cc in
+      let rest : map about_in cells
+      ≡ replicate n (about_shard names limit) ++ about_book names ∷ [] = cc in
+      (λ i. shard-log names c.names.value limit c.value here i
+      ∷ logs-are names limit n cells rest i)
 
 -- nothing is read in a cell with no entry
 nothing-at : (n cell : ℕ) → get_or {A = Log} (replicate n []) cell [] ≡ []
@@ -153,7 +156,7 @@ nothing-at zero cell = refl
 nothing-at (suc n) zero = refl
 nothing-at (suc n) (suc cell) = nothing-at n cell
 
-module _ (names : List NameShards) (limit count : ℕ) (cells : List SiteCell) (hs : Histories)
+module _ {D : Type 0} (names : List NameShards) (limit count : ℕ) (cells : List (LoggedCell D)) (hs : Histories)
     (told : List CellAbout) (opened : List Log) (numbers : List ℕ)
     (told_is : told ≡ abouts_of names limit) (opened_is : opened ≡ no_logs names)
     (numbers_are : numbers ≡ numbers_to count)
@@ -209,3 +212,22 @@ pub ok-also : {A E : Type 0} (P Q : A → Type 0) (r : Result A E) → ((a : A) 
     → IfOk r P → IfOk r Q
 ok-also P Q (Ok a) f p = f a p
 ok-also P Q (Err e) f p = tt
+
+module _ {D : Type 0} where
+  -- the logs of cells are those of what they hold
+  logs-of : (cells : List (LoggedCell D)) → map log_in (map value_of cells) ≡ map log_of_cell cells
+  logs-of [] = refl
+  logs-of (c ∷ cells) = ap (λ l. log_in c.value ∷ l) (logs-of cells)
+
+  -- the histories in what cells hold are those of the cells
+  pub ends-in : {E : Type 0} (r : Result Histories E) (values : List CellValue) (cells : List (LoggedCell D))
+      → values ≡ map value_of cells
+      → IfOk r (λ hs. (ns : List NameShards) → length values ≡ cells_in ns + 1
+      → hs ≡ histories_in ns (map log_in values))
+      → IfOk r (λ hs. (ns : List NameShards) → length cells ≡ cells_in ns + 1
+      → hs ≡ histories_in ns (map log_of_cell cells))
+  ends-in (Ok hs) values cells e f = λ ns long.
+      let size : length (map value_of cells) ≡ length cells = simp length-map in
+      f ns (ap length e ∙ (size ∙ long))
+      ∙ ap (histories_in ns) (ap (map log_in) e ∙ logs-of cells)
+  ends-in (Err x) values cells e f = tt

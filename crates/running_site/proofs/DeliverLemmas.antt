@@ -11,10 +11,14 @@ use Rattle.exchange_rules.specs.Cells.{Log, history_in, write}
 use Rattle.exchange_rules.specs.Deliveries.{admitted_kinds}
 use Rattle.exchange_rules.specs.Following.{Writer}
 use Rattle.exchange_rules.specs.Primitives.{delivered, made}
-use Rattle.exchange_rules.specs.Steps.{AreBy, closed, is_full, is_over, kinds_of}
+use Rattle.exchange_rules.specs.Steps.{AreBy, closed, is_full, is_over, kinds_of, writes_in}
+use Rattle.exchange_rules.proofs.DeliveryLemmas.{admitted_kinds-writes}
+use Rattle.exchange_rules.proofs.RoutingLemmas.{writes_in-closed}
 use Rattle.site_laws.specs.Duties.{MayDeliver}
 use Rattle.site_laws.specs.Sealings.{MayAppend}
 use Rattle.site_laws.specs.declared.sealing.Sealing.TheVariants as sealing
+use Rattle.stream_site.specs.Refusals.{IsUnsealed}
+use Rattle.stream_site.specs.declared.refusal.StepRefusal.{StepRefusal}
 use Rattle.stream_site.proofs.AdmitLemmas.{IsKept, delivered_none, delivered_some, is_kept}
 use Rattle.stream_site.proofs.CloseLemmas.{is_closed}
 
@@ -56,6 +60,7 @@ pub record IsDone (names : List NameShards) (limit : ℕ) (w : Writer) (cell : �
   pub made_is : made w cell (map write (kinds_of whole))
       ≡ delivered w cell (to_deliver (get_or w.seen cell []) step)
   pub count : length kept ≡ length (to_deliver (get_or w.seen cell []) step)
+  pub writes : writes_in (kinds_of whole) ≡ length (to_deliver (get_or w.seen cell []) step)
   pub over : is_over limit (history_in (get_or w.seen cell []))
       (to_deliver (get_or w.seen cell []) step)
       ≡ is_full limit (history_in (get_or w.seen cell [])) (kinds_of whole)
@@ -87,5 +92,26 @@ done-of names limit me w cell shard step kept whole below own e k may lt is =
       allowed = (below, inr (record { items = step; allowed = may; is = marked_is }));
       made_is = ap (λ x. made w cell (map write x)) kinds ∙ all.0;
       count = sym long;
+      writes = ap writes_in kinds ∙ (writes_in-closed true ks ∙ admitted_kinds-writes h (kinds_of step));
       over = all.1 ∙ ap (is_full limit h) (sym kinds);
     }
+
+-- what is left of a delivery that isn't acknowledged
+pub undelivered : (names : List NameShards) (limit : ℕ) (w new : Writer) (cell : ℕ)
+    (step kept whole : List Entry) (f : StepRefusal) → IsDone names limit w cell step kept whole
+    → IsUnsealed (is_full limit (history_in (get_or w.seen cell [])) (kinds_of whole) ≡ false) w
+    (made w cell (map write (kinds_of whole))) cell (writes_in (kinds_of whole)) new f
+    → IsUnsealed (is_over limit (history_in (get_or w.seen cell []))
+    (to_deliver (get_or w.seen cell []) step) ≡ false) w
+    (delivered w cell (to_deliver (get_or w.seen cell []) step)) cell
+    (length (to_deliver (get_or w.seen cell []) step)) new f
+undelivered names limit w new cell step kept whole f done u =
+    subst (λ b. IsUnsealed (b ≡ false) w
+    (delivered w cell (to_deliver (get_or w.seen cell []) step)) cell
+    (length (to_deliver (get_or w.seen cell []) step)) new f) (sym done.over)
+    (subst (λ after. IsUnsealed
+    (is_full limit (history_in (get_or w.seen cell [])) (kinds_of whole) ≡ false) w after cell
+    (length (to_deliver (get_or w.seen cell []) step)) new f) done.made_is
+    (subst (λ n. IsUnsealed
+    (is_full limit (history_in (get_or w.seen cell [])) (kinds_of whole) ≡ false) w
+    (made w cell (map write (kinds_of whole))) cell n new f) done.writes u))

@@ -10,14 +10,15 @@ use Rattle.running_site.specs.Ends.{IsEnd, IsOneEnd}
 use Rattle.running_site.specs.Passes.{number_of, numbers_to, writer_of, TablePass}
 use Rattle.running_site.specs.declared.pass.PassOf.{PassOf}
 
--- one of the passes has the number, and what is so of all passes is so of it
-with-number : (Q : PassOf TablePass → Type 0) (ps : List (PassOf TablePass)) (n : ℕ)
-    → Contains (map number_of ps) n → All Q ps
-    → (p : PassOf TablePass) × (number_of p ≡ n) × Q p
-with-number Q [] n (k, lt, e) all = absurd (omega (arith, lt))
-with-number Q (p ∷ ps) n (zero, lt, e) all = (p, e, all zero p (omega arith))
-with-number Q (p ∷ ps) n (suc k, lt, e) all =
-    with-number Q ps n (k, omega (arith, lt), e) (λ j d low. all (suc j) d (omega (arith, low)))
+module _ {D : Type 0} where
+  -- one of the passes has the number, and what is so of all passes is so of it
+  with-number : (Q : PassOf (TablePass D) → Type 0) (ps : List (PassOf (TablePass D))) (n : ℕ)
+      → Contains (map number_of ps) n → All Q ps
+      → (p : PassOf (TablePass D)) × (number_of p ≡ n) × Q p
+  with-number Q [] n (k, lt, e) all = absurd (omega (arith, lt))
+  with-number Q (p ∷ ps) n (zero, lt, e) all = (p, e, all zero p (omega arith))
+  with-number Q (p ∷ ps) n (suc k, lt, e) all =
+      with-number Q ps n (k, omega (arith, lt), e) (λ j d low. all (suc j) d (omega (arith, low)))
 
 -- where the last entry carries a number that no entry of the end carries, the end is empty
 nothing-behind : (n : ℕ) (seen more : Log) (d : LogEntry)
@@ -41,7 +42,7 @@ cell-there (log ∷ logs) zero e es is = omega arith
 cell-there (log ∷ logs) (suc cell) e es is =
     let lt = cell-there logs cell e es is in omega (arith, lt)
 
-module _ (passes : List (PassOf TablePass)) (count : ℕ)
+module _ {D : Type 0} (passes : List (PassOf (TablePass D))) (count : ℕ)
     (made : All (λ number. Contains (map number_of passes) number) (numbers_to count)) where
   -- the cell's entries in one end begin those in the other
   begins : (logs others : List Log) → IsEnd passes count logs → IsEnd passes count others
@@ -49,7 +50,7 @@ module _ (passes : List (PassOf TablePass)) (count : ℕ)
   begins logs others one other cell = go (get_or logs cell []) refl
     where
       -- what is so of the pass that appended the last entry
-      Both : PassOf TablePass → Type 0
+      Both : PassOf (TablePass D) → Type 0
       Both p = GrewBy (λ entry. author_of entry ≢ number_of p) (writer_of p).seen logs
           × GrewBy (λ entry. author_of entry ≢ number_of p) (writer_of p).seen others
 
@@ -90,8 +91,8 @@ same-lists xs ys a b = go a.0 a.1
         let four = length-append ys b.0 in absurd (omega (arith, one, two, three, four))
 
 -- all passes have just one end
-pub one-end : IsOneEnd
-one-end passes count made logs others one other cell =
+pub one-end : (D : Type 0) → IsOneEnd D
+one-end D passes count made logs others one other cell =
     same-lists (get_or logs cell []) (get_or others cell [])
     (begins passes count made logs others one other cell)
     (begins passes count made others logs other one cell)

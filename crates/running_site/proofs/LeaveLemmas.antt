@@ -11,15 +11,15 @@ use Rattle.site_laws.proofs.LaterLemmas.{later-self}
 use Rattle.turn_table.specs.Knowledge.{gave, hand}
 use Rattle.turn_table.specs.declared.knowledge.Known.{Known}
 use Rattle.turn_table.specs.declared.turn.Turn.{Turn}
-use Rattle.site_cells.specs.declared.site_cell.SiteCell.{SiteCell}
+use Rattle.logged_cells.specs.declared.logged_cell.LoggedCell.{LoggedCell}
 use Rattle.running_site.specs.Passes.{sight_in, IsKnowing}
 use Rattle.running_site.specs.Visits.{IsVisit}
 
-module _ (names : List NameShards) (limit : ℕ) (k k2 : Known CellAbout LogEntry)
-    (t : Turn SiteCell) (gone : k2 ≡ gave t.cell k) where
+module _ {D : Type 0} (names : List NameShards) (limit : ℕ) (k k2 : Known CellAbout LogEntry)
+    (t : Turn (LoggedCell D)) (gone : k2 ≡ gave t.cell k) where
   -- it has none
   pub gave-visit : IsVisit names limit k (Some t) → hand k2 t.cell ≡ None
-      → IsVisit names limit k2 None
+      → IsVisit {D = D} names limit k2 None
   gave-visit v free =
       let turn = v.holding t refl in
       record {

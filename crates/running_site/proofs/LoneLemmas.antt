@@ -1,6 +1,6 @@
 -- The law of all histories at a site of one pass: a moment of it shows just what the pass has seen.
 use Rattle.std.proofs.Common.{◌≡◌, ◌≢◌, ℕ, suc, ◌+◌, List, [], ◌∷◌, ◌++◌, length, get_or, refl, sym, ap, ◌∙◌, subst, arith, append-nil}
-use Rattle.std.specs.Prelude.{All, Contains}
+use Rattle.std.specs.Prelude.{All, Contains, Option}
 use Rattle.std.specs.List.{AllByRecursion}
 use Rattle.std.proofs.lemmas.List.{length-replicate}
 use Rattle.std.proofs.lemmas.List.Elements.{All-weaker}
@@ -21,7 +21,8 @@ use Rattle.turn_table.specs.Histories.{at}
 use Rattle.turn_table.specs.Knowledge.{IsWide}
 use Rattle.turn_table.specs.Steps.{Watched}
 use Rattle.turn_table.specs.declared.knowledge.Known.{Known}
-use Rattle.site_cells.specs.Values.{about_in, faults_of, is_closed, law_of, log_of_cell, tells_of, IsSettled}
+use Rattle.logged_cells.specs.Cells.{about_in, faults_of, is_closed, log_of_cell, IsSettled}
+use Rattle.site_cells.specs.Values.{law_of, tells_of}
 use Rattle.running_site.specs.Passes.{writer_in, IsKnowing, IsListed}
 use Rattle.running_site.proofs.AloneLemmas.{only-one}
 use Rattle.running_site.proofs.KnownLemmas.{each_of, names_of}
@@ -49,10 +50,12 @@ lone-nothing numbers me log (e ∷ new) one listed others =
     absurd (other.0 (only-one me (author_of e)
     (subst (λ ns. IsListed ns (author_of e)) one own.0)))
 
-module _ (names : List NameShards) (limit : ℕ) (k : Known CellAbout LogEntry)
+module _ {D : Type 0} (seen : D → Option (List ℕ)) (may_leave : D → List ℕ → Type 0)
+    (faults : D → ℕ) (names : List NameShards) (limit : ℕ) (k : Known CellAbout LogEntry)
     (knowing : IsKnowing names limit k) (numbers : k.numbers ≡ 1 ∷ [])
     (wide : IsWide k (cells_in names + 1))
-    (w : Watched about_in log_of_cell author_of law_of tells_of IsSettled is_closed faults_of k) where
+    (w : Watched about_in log_of_cell author_of law_of tells_of (IsSettled seen may_leave) is_closed
+    (faults_of faults) k) where
   -- its number is the only one
   me : k.number ≡ 1
   me = only-one 1 k.number (subst (λ ns. IsListed ns k.number) numbers knowing.listed)

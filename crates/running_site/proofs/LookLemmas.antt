@@ -1,58 +1,108 @@
 -- A pass that took a turn and looked in it.
-use Rattle.std.proofs.Common.{◌≡◌, ◌≢◌, ℕ, ◌+◌, ◌<◌, false, true, List, [], ◌∷◌, ◌++◌, length, get_or, set, slice_index, refl, sym, ap, ◌∙◌, subst, arith, inl, inr, length-set}
-use Rattle.std.specs.Prelude.{All, Option, Some, None, slice_get}
-use Rattle.std.proofs.lemmas.List.{get_or-set_other, length-replicate}
+use Rattle.std.proofs.Common.{◌≡◌, ◌≢◌, ℕ, ◌<◌, false, List, [], ◌∷◌, ◌++◌, length, get_or, set, slice_index, refl, sym, ap, ◌∙◌, subst, arith, length-set}
+use Rattle.std.specs.Prelude.{All, IfSome, Option, Some, None, slice_get}
+use Rattle.std.proofs.lemmas.List.{get_or-set_other}
 use Rattle.tuple_values.specs.declared.names.NameShards.{NameShards}
 use Rattle.shard_versions.specs.declared.cut.CutMark.{CutMark}
 use Rattle.shard_versions.specs.declared.cut.OwnMark.{OwnMark}
 use Rattle.topic_book.specs.Cells.{cells_in}
 use Rattle.exchange_rules.specs.Cells.{Log, author_of, book_in}
-use Rattle.exchange_rules.specs.Primitives.{LooksAt}
+use Rattle.exchange_rules.specs.Primitives.{barred_at, LooksAt}
 use Rattle.exchange_rules.specs.declared.log_entry.LogEntry.{LogEntry}
 use Rattle.site_laws.specs.Looks.{last_seen, looked_at, IsLater, IsLookCovered, Sight}
 use Rattle.site_laws.specs.Sealings.{names_told}
 use Rattle.site_laws.specs.SiteCells.{IsLawful}
 use Rattle.site_laws.specs.declared.cell_about.CellAbout.{CellAbout}
-use Rattle.site_laws.proofs.LaterLemmas.{later-look}
+use Rattle.site_laws.proofs.LaterLemmas.{later-look, later-self}
 use Rattle.turn_table.specs.Calls.{fault_word, turn_about, turn_faults, turn_history}
 use Rattle.turn_table.specs.Histories.{at}
-use Rattle.turn_table.specs.Knowledge.{hand, looked, took, waited}
-use Rattle.turn_table.specs.Steps.{AddsOthers, Glimpse, WasShut}
+use Rattle.turn_table.specs.Knowledge.{barred, hand, looked, took, waited}
+use Rattle.turn_table.specs.Steps.{AddsOthers, Glimpse}
 use Rattle.turn_table.specs.declared.knowledge.Known.{Known}
 use Rattle.turn_table.specs.declared.turn.Turn.{Turn}
 use Rattle.site_cells.specs.Cells.{no_logs}
-use Rattle.site_cells.specs.Values.{about_in, faults_of, is_closed, law_of, log_of_cell, tells_of, IsSettled}
-use Rattle.site_cells.specs.declared.site_cell.SiteCell.{SiteCell}
-use Rattle.running_site.specs.Passes.{sight_in, writer_in, AreSeenFit, AreSeenSigned, IsKnowing, IsListed, TablePass}
-use Rattle.running_site.specs.Visits.{AreCounted, IsNoted, IsTurn, IsVisit}
+use Rattle.logged_cells.specs.Cells.{about_in, faults_of, is_closed, log_of_cell, IsSettled}
+use Rattle.site_cells.specs.Values.{law_of, tells_of}
+use Rattle.logged_cells.specs.declared.logged_cell.LoggedCell.{LoggedCell}
+use Rattle.running_site.specs.Passes.{sight_in, writer_in, AreSeenFit, AreSeenSigned, IsListed, TablePass}
+use Rattle.running_site.specs.Visits.{AreCounted, IsNoted, IsSound, IsTurn, IsVisit}
 use Rattle.running_site.proofs.FitLemmas.{lawful-fit, set-fit}
+use Rattle.running_site.proofs.SealLemmas.{if-there}
 use Rattle.running_site.proofs.KnownLemmas.{are-were, each_of, names_of, one_more_is}
 use Rattle.running_site.proofs.SignedLemmas.{look-signed, set-signed}
 use Rattle.running_site.proofs.TopicLemmas.{counted-fit}
 
--- the count of faults of the turn that is held
-pub noted-as : (p : TablePass) (o : Option (Turn SiteCell)) (t : Turn SiteCell) → o ≡ Some t
-    → fault_word p t.cell ≡ turn_faults faults_of t → IsNoted p o
-noted-as p o t is noted u e =
-    let same : t ≡ u = cc in
-    subst (λ (x : Turn SiteCell). fault_word p x.cell ≡ turn_faults faults_of x) same noted
+module _ {D : Type 0} where
+  -- the count of faults of the turn that is held
+  pub noted-as : (faults : D → ℕ) (p : TablePass D) (o : Option (Turn (LoggedCell D)))
+      (t : Turn (LoggedCell D)) → o ≡ Some t
+      → fault_word p t.cell ≡ turn_faults (faults_of faults) t → IsNoted faults p o
+  noted-as faults p o t is noted u e =
+      let same : t ≡ u = cc in
+      subst (λ (x : Turn (LoggedCell D)). fault_word p x.cell ≡ turn_faults (faults_of faults) x) same
+      noted
 
--- no cell of a site is ever shut
-pub never-shut : (names : List NameShards) (limit : ℕ) (k : Known CellAbout LogEntry)
-    → IsKnowing names limit k → (cell : ℕ) → cell < cells_in names + 1
-    → WasShut about_in log_of_cell author_of law_of tells_of IsSettled is_closed faults_of k cell → ⊥
-never-shut names limit k knowing cell within was =
-    let counted : length k.start ≡ cells_in names + 1 =
-    ap length knowing.begun ∙ length-replicate (cells_in names + 1) [] in
-    let grown = was.kept.counted in
-    let low : cell < length was.kept.histories = omega (arith, counted, grown, within) in
-    elim (was.kept.each_cell cell low).turn [
-      | inl home ↦ let is = was.shut in let zero = home.0 in absurd (omega (arith, is, zero))
-      | inr (inl out) ↦ let is = was.shut in let one = out.0 in absurd (omega (arith, is, one))
-      | inr (inr closed) ↦ let e : false ≡ true = closed.1.1 in absurd (cc)
-    ]
+  -- the value of the turn that is held waits for no log
+  pub sound-as : (seen : D → Option (List ℕ)) (may_leave : D → List ℕ → Type 0)
+      (o : Option (Turn (LoggedCell D))) (t : Turn (LoggedCell D)) → o ≡ Some t
+      → IfSome t.value (λ cell. IsSettled seen may_leave cell × (is_closed cell ≡ false))
+      → IsSound seen may_leave o
+  sound-as seen may_leave o t is sound u e y there =
+      let same : t ≡ u = cc in
+      let here : t.value ≡ Some y = ap (λ (x : Turn (LoggedCell D)). x.value) same ∙ there in
+      subst (λ x. IfSome x (λ cell. IsSettled seen may_leave cell × (is_closed cell ≡ false))) here
+      sound
 
-module _ (k k1 k2 : Known CellAbout LogEntry) (cell count : ℕ) (t : Turn SiteCell)
+  -- and back
+  pub sound-here : (seen : D → Option (List ℕ)) (may_leave : D → List ℕ → Type 0)
+      (o : Option (Turn (LoggedCell D))) (t : Turn (LoggedCell D)) → o ≡ Some t
+      → IsSound seen may_leave o
+      → IfSome t.value (λ cell. IsSettled seen may_leave cell × (is_closed cell ≡ false))
+  sound-here seen may_leave o t is sound =
+      if-there (λ cell. IsSettled seen may_leave cell × (is_closed cell ≡ false)) t.value
+      (λ y there. sound t is y there)
+
+-- a pass that found the cell shut
+module _ (k k2 : Known CellAbout LogEntry) (cell count : ℕ)
+    (is : k2 ≡ barred cell (waited cell count k)) where
+  -- it has no turn
+  pub barred-visit : {D : Type 0} (names : List NameShards) (limit : ℕ)
+      → IsVisit {D = D} names limit k None
+      → IsVisit {D = D} names limit k2 None
+  barred-visit {D = D} names limit v = subst (λ x. IsVisit {D = D} names limit x None) (sym is) (record {
+    knowing = record {
+      about = v.knowing.about;
+      begun = v.knowing.begun;
+      listed = v.knowing.listed;
+      signed = v.knowing.signed;
+      since = v.knowing.since;
+      fit = v.knowing.fit;
+    };
+    idle = v.idle;
+    holding = λ t e. absurd (cc);
+  })
+
+  -- it is a writer that was barred
+  pub barred-writer : (marks : List CutMark) (own : List OwnMark) → cell < length k.barred
+      → writer_in k2 marks own ≡ barred_at (writer_in k marks own) cell
+  barred-writer marks own lt =
+      ap (λ x. writer_in x marks own) is
+      ∙ (λ i. record {
+        me = k.number;
+        seen = k.seen;
+        marks = marks;
+        own = own;
+        looks = k.looks;
+        faults = record { barred = one_more_is cell k.barred lt i; broke = k.broke };
+      })
+
+  -- and this moment is a later one
+  pub barred-later : (names : List NameShards) → IsLater names (sight_in k) (sight_in k2)
+  barred-later names =
+      let same : sight_in k2 ≡ sight_in k = ap sight_in is in
+      subst (IsLater names (sight_in k)) (sym same) (later-self names (sight_in k))
+
+module _ {D : Type 0} (k k1 k2 : Known CellAbout LogEntry) (cell count : ℕ) (t : Turn (LoggedCell D))
     (here : t.cell ≡ cell)
     (first : k1 ≡ took cell (turn_history log_of_cell t) (waited cell count k))
     (second : k2 ≡ looked t.cell (turn_history log_of_cell t) k1) where
@@ -99,9 +149,10 @@ module _ (k k1 k2 : Known CellAbout LogEntry) (cell count : ℕ) (t : Turn SiteC
             });
       }
 
-  module _ (names : List NameShards) (limit : ℕ) (v : IsVisit names limit k None)
-      (g : Glimpse about_in log_of_cell author_of law_of tells_of IsSettled is_closed faults_of
-      t.cell k2) where
+  module _ (seen : D → Option (List ℕ)) (may_leave : D → List ℕ → Type 0) (faults : D → ℕ)
+      (names : List NameShards) (limit : ℕ) (v : IsVisit {D = D} names limit k None)
+      (g : Glimpse about_in log_of_cell author_of law_of tells_of (IsSettled seen may_leave)
+      is_closed (faults_of faults) t.cell k2) where
     about-is : k2.about ≡ k.about
     about-is = ap (λ (x : Known CellAbout LogEntry). x.about) known-is
 

@@ -1,6 +1,6 @@
 -- A pass that appended in its turn.
-use Rattle.std.proofs.Common.{◌≡◌, ℕ, ◌+◌, ◌<◌, false, true, List, [], ◌∷◌, ◌++◌, length, map, set, refl, sym, ap, ◌∙◌, subst, arith, length-append, length-set}
-use Rattle.std.specs.Prelude.{IfSome, Option, Some, None, is_some, slice_get}
+use Rattle.std.proofs.Common.{◌≡◌, cond, inl, inr, slice_index, ℕ, ◌+◌, ◌<◌, true, List, [], ◌∷◌, ◌++◌, length, map, set, refl, sym, ap, ◌∙◌, subst, arith, length-append, length-set}
+use Rattle.std.specs.Prelude.{IfErr, IfSome, OnOk, Option, Some, None, Result, Ok, Err, is_some, slice_get}
 use Rattle.std.specs.List.{AllByRecursion}
 use Rattle.std.proofs.lemmas.List.{get_or-set_other, length-map}
 use Rattle.tuple_values.specs.declared.names.NameShards.{NameShards}
@@ -12,7 +12,7 @@ use Rattle.topic_book.specs.Fitness.{IsFitEntry}
 use Rattle.topic_book.specs.declared.topic.BookEntry.{BookEntry}
 use Rattle.topic_book.specs.declared.topic.BookEntry.TheVariants as book
 use Rattle.exchange_rules.specs.Cells.{Log, Payload, book_in, payload_of, signed, write}
-use Rattle.exchange_rules.specs.Primitives.{made}
+use Rattle.exchange_rules.specs.Primitives.{broken_at, made}
 use Rattle.exchange_rules.specs.Steps.{kinds_of}
 use Rattle.exchange_rules.specs.declared.log_entry.LogEntry.{LogEntry}
 use Rattle.exchange_rules.specs.declared.log_entry.LogEntry.TheVariants as logged
@@ -26,21 +26,24 @@ use Rattle.site_laws.specs.declared.sealing.Sealing.TheVariants as sealing
 use Rattle.site_laws.proofs.CellLemmas.{book-append}
 use Rattle.stream_site.proofs.TopicLemmas.{entry_fit}
 use Rattle.turn_table.specs.Calls as turns
-use Rattle.turn_table.specs.Calls.{faults_in, turn_about, turn_history}
+use Rattle.turn_table.specs.Calls.{turn_about, turn_history}
 use Rattle.turn_table.specs.Histories.{at}
-use Rattle.turn_table.specs.Knowledge.{hand, sealed}
+use Rattle.turn_table.specs.Knowledge.{hand, has_risen, noted, sealed}
 use Rattle.turn_table.specs.declared.knowledge.Known.{Known}
 use Rattle.turn_table.specs.declared.turn.Turn.{Turn}
-use Rattle.site_cells.specs.Values.{about_in, faults_of, is_closed, log_of_cell, CanReserve, IsOverLimit, IsRefused, IsSettled}
+use Rattle.logged_cells.specs.Cells.{about_in, log_of_cell}
+use Rattle.site_cells.specs.Values.{CanReserve, IsOverLimit, IsRefused}
 use Rattle.site_cells.specs.declared.cell_refusal.CellRefusal.TheVariants.{OutOfMemory, ShardFull}
 use Rattle.site_cells.specs.declared.cell_value.CellValue.{CellValue}
 use Rattle.site_cells.specs.declared.cell_value.CellValue.TheVariants as value
-use Rattle.site_cells.specs.declared.site_cell.SiteCell.{SiteCell}
+use Rattle.logged_cells.specs.declared.logged_cell.LoggedCell.{LoggedCell}
 use Rattle.running_site.specs.Passes.{sight_in, writer_in, IsKnowing}
-use Rattle.running_site.specs.Seals.{IsSealed}
+use Rattle.running_site.specs.Seals.{broken_once, made_by, writes_of, IsSealed, IsUnsealedIn, LeavesWriter}
+use Rattle.running_site.specs.declared.refusal.SealRefusal.{SealRefusal}
+use Rattle.running_site.specs.declared.refusal.SealRefusal.TheVariants.{NoRoom, Broken}
 use Rattle.running_site.specs.Visits.{AreCounted, IsTurn, IsVisit}
 use Rattle.running_site.proofs.FitLemmas.{sealed-fit}
-use Rattle.running_site.proofs.KnownLemmas.{are-were, seen-more, were-are}
+use Rattle.running_site.proofs.KnownLemmas.{are-were, one_more_is, seen-more, were-are}
 use Rattle.running_site.proofs.SignedLemmas.{sealed-signed}
 use Rattle.running_site.proofs.TopicLemmas.{counted-more}
 use Rattle.running_site.proofs.ValueLemmas.{step-by}
@@ -84,38 +87,75 @@ memory-refused (value.Book b) (sealing.Shard step) can under = can
 memory-refused (value.Book b) (sealing.Book (book.Bind by key c)) can under = tt
 memory-refused (value.Book b) (sealing.Book (book.Store by key upto)) can under = refl
 
--- no cell has a disk that might fail
-pub none-failed : (o : Option SiteCell) → faults_in faults_of o ≡ 0
-none-failed None = refl
-none-failed (Some cell) = refl
+module _ {D : Type 0} where
+  -- a turn with another value of the same log
+  pub turned-visit : (names : List NameShards) (limit : ℕ) (k : Known CellAbout LogEntry)
+      (t u : Turn (LoggedCell D)) → IsVisit names limit k (Some t) → u.cell ≡ t.cell
+      → turn_history log_of_cell u ≡ turn_history log_of_cell t
+      → turn_about about_in u ≡ turn_about about_in t → IsVisit names limit k (Some u)
+  turned-visit names limit k t u v cell log about =
+      let x = v.holding t refl in
+      let turn : IsTurn names k u = record {
+        within = subst (λ n. n < length k.seen) (sym cell) x.within;
+        in_hand = ap (hand k) cell ∙ (x.in_hand ∙ ap Some (sym log));
+        others = λ c apart. x.others c (λ e. apart (e ∙ sym cell));
+        whole = ap (at k.seen) cell ∙ (x.whole ∙ sym log);
+        suits = about ∙ (x.suits ∙ ap (slice_get k.about) (sym cell));
+        topics = λ is. subst (λ l. AreCounted names (book_in l)) (sym log)
+            (x.topics (sym cell ∙ is));
+      } in
+      record {
+        knowing = v.knowing;
+        idle = λ e. absurd (cc);
+        holding = λ w e. let same : u ≡ w = cc in subst (IsTurn names k) same turn;
+      }
 
--- so none waits for one, or is shut
-pub all-sound : (o : Option SiteCell)
-    → IfSome o (λ cell. IsSettled cell × (is_closed cell ≡ false))
-all-sound None = tt
-all-sound (Some cell) = (tt, refl)
+  -- the pass that noted a fault of the cell's disk has its turn still
+  pub broken-visit : (names : List NameShards) (limit : ℕ) (k k2 : Known CellAbout LogEntry)
+      (cell : ℕ) (o : Option (Turn (LoggedCell D))) → k2 ≡ broken_once cell k → IsVisit names limit k o
+      → IsVisit names limit k2 o
+  broken-visit names limit k k2 cell o is v = subst (λ x. IsVisit names limit x o) (sym is) (record {
+    knowing = record {
+      about = v.knowing.about;
+      begun = v.knowing.begun;
+      listed = v.knowing.listed;
+      signed = v.knowing.signed;
+      since = v.knowing.since;
+      fit = v.knowing.fit;
+    };
+    idle = v.idle;
+    holding = λ t e.
+        let x = v.holding t e in
+        record {
+          within = x.within;
+          in_hand = x.in_hand;
+          others = x.others;
+          whole = x.whole;
+          suits = x.suits;
+          topics = x.topics;
+        };
+  })
 
--- a turn with another value of the same log
-pub turned-visit : (names : List NameShards) (limit : ℕ) (k : Known CellAbout LogEntry)
-    (t u : Turn SiteCell) → IsVisit names limit k (Some t) → u.cell ≡ t.cell
-    → turn_history log_of_cell u ≡ turn_history log_of_cell t
-    → turn_about about_in u ≡ turn_about about_in t → IsVisit names limit k (Some u)
-turned-visit names limit k t u v cell log about =
-    let x = v.holding t refl in
-    let turn : IsTurn names k u = record {
-      within = subst (λ n. n < length k.seen) (sym cell) x.within;
-      in_hand = ap (hand k) cell ∙ (x.in_hand ∙ ap Some (sym log));
-      others = λ c apart. x.others c (λ e. apart (e ∙ sym cell));
-      whole = ap (at k.seen) cell ∙ (x.whole ∙ sym log);
-      suits = about ∙ (x.suits ∙ ap (slice_get k.about) (sym cell));
-      topics = λ is. subst (λ l. AreCounted names (book_in l)) (sym log)
-          (x.topics (sym cell ∙ is));
-    } in
-    record {
-      knowing = v.knowing;
-      idle = λ e. absurd (cc);
-      holding = λ w e. let same : u ≡ w = cc in subst (IsTurn names k) same turn;
-    }
+-- what was noted is one fault more
+pub noted-once : (cell word faults : ℕ) (k : Known CellAbout LogEntry) → has_risen word faults ≡ true
+    → noted cell word faults k ≡ broken_once cell k
+noted-once cell word faults k risen =
+    ap (λ b. record k {
+      broke = set k.broke cell (slice_index k.broke cell + cond b 1 0);
+    }) risen
+
+-- a writer whose pass noted a fault
+pub broken-writer : (k : Known CellAbout LogEntry) (marks : List CutMark) (own : List OwnMark)
+    (cell : ℕ) → cell < length k.broke
+    → writer_in (broken_once cell k) marks own ≡ broken_at (writer_in k marks own) cell
+broken-writer k marks own cell lt = λ i. record {
+  me = k.number;
+  seen = k.seen;
+  marks = marks;
+  own = own;
+  looks = k.looks;
+  faults = record { barred = k.barred; broke = one_more_is cell k.broke lt i };
+}
 
 -- the book's entries in what may be appended are on the collections
 topics-more : (names : List NameShards) (me : ℕ) (seen : List Log) (cell : ℕ) (x : Sealing)
@@ -125,8 +165,8 @@ topics-more names me seen cell (sealing.Shard step) may is =
     let lt = may.0 in absurd (omega (arith, lt, is))
 topics-more names me seen cell (sealing.Book e) may is = (entry_fit names seen me e may.1, tt)
 
-module _ (names : List NameShards) (limit : ℕ) (k k2 : Known CellAbout LogEntry)
-    (t u : Turn SiteCell) (x : Sealing) (v : IsVisit names limit k (Some t))
+module _ {D : Type 0} (names : List NameShards) (limit : ℕ) (k k2 : Known CellAbout LogEntry)
+    (t u : Turn (LoggedCell D)) (x : Sealing) (v : IsVisit names limit k (Some t))
     (cell : ℕ) (here : t.cell ≡ cell) (same : u.cell ≡ t.cell)
     (grown : turn_history log_of_cell u ≡ turn_history log_of_cell t ++ entries_of x)
     (after : k2 ≡ sealed t.cell (turn_history log_of_cell u) k) where
@@ -236,6 +276,55 @@ sealed-made k k2 marks own more cell x payloads s e =
       faults = record { barred = k.barred; broke = k.broke };
     })
 
+-- a pass that kept its turn has sealed what it had
+pub sealed-as : {A : Type 0} (r : Result A SealRefusal) (k mid k2 : Known CellAbout LogEntry)
+    (own more : List OwnMark) (cell : ℕ) (x : Sealing) → OnOk r (k2 ≡ mid)
+    → OnOk r (IsSealed k mid own more cell x) → OnOk r (IsSealed k k2 own more cell x)
+sealed-as (Ok a) k mid k2 own more cell x same s =
+    subst (λ z. IsSealed k z own more cell x) (sym same) s
+sealed-as (Err f) k mid k2 own more cell x same s = tt
+
+-- a sealing whose log failed, as what the writer is then
+pub unsealed-writer : {D : Type 0} (t u : Turn (LoggedCell D)) (k k2 : Known CellAbout LogEntry)
+    (marks marks2 : List CutMark) (own more : List OwnMark) (cell : ℕ) (x : Sealing)
+    (r : SealRefusal) → marks2 ≡ marks → cell < length k.broke
+    → IsUnsealedIn t u k k2 own more cell x r
+    → LeavesWriter (writer_in k marks own) (made_by k marks own cell x) cell (writes_of x)
+    (writer_in k2 marks2 more) r
+unsealed-writer t u k k2 marks marks2 own more cell x (NoRoom f) m lt is =
+    λ i. writer_in (is.1 i) (m i) (is.2 i)
+unsealed-writer t u k k2 marks marks2 own more cell x (Broken n) m lt (inl none) =
+    inl (none.0, (λ i. writer_in (none.1 i) (m i) (none.2 i)) ∙ broken-writer k marks own cell lt)
+unsealed-writer t u k k2 marks marks2 own more cell x (Broken n) m lt (inr all) =
+    inr (
+      all.0,
+      (λ i. writer_in (all.1.known_is i) (m i) (all.1.mark i))
+          ∙ broken-writer (sealed cell (at k.seen cell ++ entries_of x) k) marks
+          (own ++ record {
+            cell = cell;
+            from = length (at k.seen cell);
+            count = length (entries_of x);
+          } ∷ []) cell lt,
+    )
+
+pub unsealed-writers : {D A : Type 0} (t u : Turn (LoggedCell D)) (k k2 : Known CellAbout LogEntry)
+    (marks marks2 : List CutMark) (own more : List OwnMark) (cell : ℕ) (x : Sealing)
+    (r : Result A SealRefusal) → marks2 ≡ marks → cell < length k.broke
+    → IfErr r (IsUnsealedIn t u k k2 own more cell x)
+    → IfErr r (LeavesWriter (writer_in k marks own) (made_by k marks own cell x) cell (writes_of x)
+    (writer_in k2 marks2 more))
+unsealed-writers t u k k2 marks marks2 own more cell x (Ok a) m lt is = tt
+unsealed-writers t u k k2 marks marks2 own more cell x (Err f) m lt is =
+    unsealed-writer t u k k2 marks marks2 own more cell x f m lt is
+
+-- what a pass that sealed is, as what its writer made
+pub made_by-made : (k : Known CellAbout LogEntry) (marks : List CutMark) (own : List OwnMark)
+    (cell : ℕ) (x : Sealing) (payloads : List Payload) → entries_of x ≡ signed k.number payloads
+    → made_by k marks own cell x ≡ made (writer_in k marks own) cell payloads
+made_by-made k marks own cell x payloads e =
+    sealed-made k (sealed cell (at k.seen cell ++ entries_of x) k) marks own _ cell x payloads
+    (record { known_is = refl; mark = refl }) e
+
 -- the writer where nothing has changed
 pub writer-same : (k k2 : Known CellAbout LogEntry) (marks marks2 : List CutMark)
     (own own2 : List OwnMark) → k2 ≡ k → marks2 ≡ marks → own2 ≡ own
@@ -258,7 +347,8 @@ entry-signed names me seen (book.Bind by key b) may =
 entry-signed names me seen (book.Store by key upto) may =
     ap (λ n. logged.Book (book.Store n key upto) ∷ []) may.0
 
--- the log of the value in a turn
-pub log-there : (t : Turn SiteCell) (y : SiteCell) → t.value ≡ Some y
-    → log_of_cell y ≡ turn_history log_of_cell t
-log-there t y there = ap (turns.history_in log_of_cell) (sym there)
+module _ {D : Type 0} where
+  -- the log of the value in a turn
+  pub log-there : (t : Turn (LoggedCell D)) (y : LoggedCell D) → t.value ≡ Some y
+      → log_of_cell y ≡ turn_history log_of_cell t
+  log-there t y there = ap (turns.history_in log_of_cell) (sym there)

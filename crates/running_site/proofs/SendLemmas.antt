@@ -1,7 +1,6 @@
 -- A site with its cells may be shared by threads, and a cell may go to one.
 use denote.Param.Send.{IsSend, IsSync, sendable}
-use denote.Param.SendFields.{as_row_send, as_row_sync}
-use denote.Struct.Field.{unit-field}
+use denote.Param.SendFields.{as_row_sync}
 use Rattle.std.proofs.Crossing as heap
 use Rattle.std.proofs.MapsCrossing as maps
 use Rattle.atomic_table.proofs.shared.Shared.TheSendSync as shared
@@ -25,10 +24,14 @@ use Rattle.topic_book.specs.contracts.topics.Topic as Topic
 use Rattle.exchange_rules.specs.contracts.log_entry.LogEntry as LogEntry
 use Rattle.site_laws.specs.contracts.cell_about.CellAbout as CellAbout
 use Rattle.site_laws.specs.contracts.sealing.Sealing as Sealing
-use Rattle.site_cells.specs.contracts.cell_refusal.CellRefusal as CellRefusal
 use Rattle.site_cells.specs.contracts.cell_value.CellValue as CellValue
-use Rattle.site_cells.specs.contracts.site_cell.SiteCell as SiteCell
-use Rattle.site_cells.specs.contracts.site_cell.SiteCellCellState.TheImpl.{ghosts}
+use Rattle.disk_edge.specs.contracts.change.Change as Change
+use Rattle.disk_edge.specs.contracts.memory_disk.MemoryDisk as MemoryDisk
+use Rattle.commit_log.specs.contracts.log.Log as DiskLog
+use Rattle.logged_cells.specs.contracts.logged_cell.LoggedCell as LoggedCell
+use Rattle.logged_cells.specs.contracts.logged_cell.Made as CellMade
+use Rattle.logged_cells.specs.contracts.refusal.LoggedRefusal as LoggedRefusal
+use Rattle.turn_table.specs.declared.cell_state.CellState as CellState
 use Rattle.turn_table.specs.contracts.table.TurnTable as TurnTable
 use Rattle.running_site.specs.contracts.site.SiteOf as SiteOf
 
@@ -119,34 +122,50 @@ value_send = search (shard_send, book_send, heap.crosses, sendable) depth 60 fit
 value_sync : IsSync (CellValue.the_field).row
 value_sync = search (shard_sync, book_sync, heap.crosses, sendable) depth 60 fits 20000
 
-inside_send : IsSend (SiteCell.the_field).row
-inside_send = search (value_send, heap.crosses, sendable) depth 60 fits 20000
+-- a disk in memory, and a log on one
+change_send : IsSend Change.the_row
+change_send = search (heap.crosses, sendable) depth 60 fits 20000
 
-inside_sync : IsSync (SiteCell.the_field).row
-inside_sync = search (value_sync, heap.crosses, sendable) depth 60 fits 20000
+change_sync : IsSync Change.the_row
+change_sync = search (heap.crosses, sendable) depth 60 fits 20000
 
-pub cell_send : IsSend SiteCell.the_row
-cell_send = as_row_send SiteCell.the_field inside_send
+disk_send : IsSend MemoryDisk.the_row
+disk_send = search (change_send, heap.crosses, sendable) depth 60 fits 20000
 
-pub cell_sync : IsSync SiteCell.the_row
-cell_sync = as_row_sync SiteCell.the_field inside_sync
+disk_sync : IsSync MemoryDisk.the_row
+disk_sync = search (change_sync, heap.crosses, sendable) depth 60 fits 20000
 
--- a site
+disk_log_send : IsSend (DiskLog.the_row MemoryDisk.the_row)
+disk_log_send = search (disk_send, heap.crosses, sendable) depth 60 fits 20000
+
+disk_log_sync : IsSync (DiskLog.the_row MemoryDisk.the_row)
+disk_log_sync = search (disk_sync, heap.crosses, sendable) depth 60 fits 20000
+
+pub cell_send : IsSend (LoggedCell.the_row MemoryDisk.the_row)
+cell_send = search (value_send, disk_log_send, heap.crosses, sendable) depth 60 fits 20000
+
+pub cell_sync : IsSync (LoggedCell.the_row MemoryDisk.the_row)
+cell_sync = search (value_sync, disk_log_sync, heap.crosses, sendable) depth 60 fits 20000
+
+-- a site without logs
 names_sync : IsSync (Sequence.the_row NameShards.the_row)
 names_sync = search (text_sync, heap.crosses, sendable) depth 60 fits 20000
 
-table_sync
-    : IsSync (TurnTable.the_field SiteCell.the_row CellAbout.the_row LogEntry.the_row Sealing.the_row unit-field.row CellRefusal.the_row ghosts).row
-table_sync =
-    search (cell_send, cell_sync, shared.the_sync, lease.the_sync, heap.crosses, sendable)
-    depth 60 fits 20000
+module _ (gh : CellState.Ghosts (LoggedCell.the_row MemoryDisk.the_row).Denot (CellAbout.the_row).Denot
+    (LogEntry.the_row).Denot (Sealing.the_row).Denot (CellMade.the_row).Denot
+    (LoggedRefusal.the_row).Denot) where
+  table_sync
+      : IsSync (TurnTable.the_field (LoggedCell.the_row MemoryDisk.the_row) CellAbout.the_row LogEntry.the_row Sealing.the_row CellMade.the_row LoggedRefusal.the_row gh).row
+  table_sync =
+      search (cell_send, cell_sync, shared.the_sync, lease.the_sync, heap.crosses, sendable)
+      depth 60 fits 20000
 
-all_sync
-    : IsSync (SiteOf.the_field SiteCell.the_row CellAbout.the_row LogEntry.the_row Sealing.the_row unit-field.row CellRefusal.the_row ghosts).row
-all_sync = search (table_sync, names_sync, heap.crosses, sendable) depth 60 fits 20000
+  all_sync
+      : IsSync (SiteOf.the_field (LoggedCell.the_row MemoryDisk.the_row) CellAbout.the_row LogEntry.the_row Sealing.the_row CellMade.the_row LoggedRefusal.the_row gh).row
+  all_sync = search (table_sync, names_sync, heap.crosses, sendable) depth 60 fits 20000
 
-pub site_sync
-    : IsSync (SiteOf.the_row SiteCell.the_row CellAbout.the_row LogEntry.the_row Sealing.the_row unit-field.row CellRefusal.the_row ghosts)
-site_sync =
-    as_row_sync (SiteOf.the_field SiteCell.the_row CellAbout.the_row LogEntry.the_row Sealing.the_row unit-field.row CellRefusal.the_row ghosts)
-    all_sync
+  pub site_sync
+      : IsSync (SiteOf.the_row (LoggedCell.the_row MemoryDisk.the_row) CellAbout.the_row LogEntry.the_row Sealing.the_row CellMade.the_row LoggedRefusal.the_row gh)
+  site_sync =
+      as_row_sync (SiteOf.the_field (LoggedCell.the_row MemoryDisk.the_row) CellAbout.the_row LogEntry.the_row Sealing.the_row CellMade.the_row LoggedRefusal.the_row gh)
+      all_sync

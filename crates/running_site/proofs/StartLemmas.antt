@@ -20,8 +20,8 @@ use Rattle.turn_table.specs.Knowledge.{fresh, hand}
 use Rattle.turn_table.specs.declared.knowledge.Known.{Known}
 use Rattle.turn_table.specs.declared.rule.Opening.{Opening}
 use Rattle.site_cells.specs.Cells.{abouts_of, no_logs}
-use Rattle.site_cells.specs.Values.{about_in, is_closed, log_of_cell, IsSettled}
-use Rattle.site_cells.specs.declared.site_cell.SiteCell.{SiteCell}
+use Rattle.logged_cells.specs.Cells.{about_in, is_closed, is_shut_in, log_of_cell, IsInStepWith, IsSettled}
+use Rattle.logged_cells.specs.declared.logged_cell.LoggedCell.{LoggedCell}
 use Rattle.running_site.specs.Passes.{no_faults, layout_in, new_writer, sight_in, sight_where, writer_in, writer_of, writer_where, IsKnowing, IsOpened, IsPassIn, IsPassOf, TablePass}
 use Rattle.running_site.specs.Records.{content, recorded}
 use Rattle.running_site.specs.declared.pass.PassOf.{PassOf}
@@ -36,41 +36,42 @@ all-same zero i x = refl
 all-same (suc n) zero x = refl
 all-same (suc n) (suc i) x = all-same n i x
 
--- the law holds of cells with no entry
-pub start-lawful : (names : List NameShards) (limit : ℕ) (cells : List SiteCell)
-    → map about_in cells ≡ abouts_of names limit → map log_of_cell cells ≡ no_logs names
-    → IsLawful (names_told (map about_in cells)) (map log_of_cell cells)
-start-lawful names limit cells a e =
-    subst (λ ns. IsLawful ns (map log_of_cell cells))
-    (sym (ap names_told a ∙ names_of names limit))
-    (subst (IsLawful names) (sym e) (nothing-lawful names))
+module _ {D : Type 0} where
+  -- the law holds of cells with no entry
+  pub start-lawful : (names : List NameShards) (limit : ℕ) (cells : List (LoggedCell D))
+      → map about_in cells ≡ abouts_of names limit → map log_of_cell cells ≡ no_logs names
+      → IsLawful (names_told (map about_in cells)) (map log_of_cell cells)
+  start-lawful names limit cells a e =
+      subst (λ ns. IsLawful ns (map log_of_cell cells))
+      (sym (ap names_told a ∙ names_of names limit))
+      (subst (IsLawful names) (sym e) (nothing-lawful names))
 
--- and none of them has one
-pub start-new : (P : LogEntry → Type 0) (n : ℕ) (cells : List SiteCell)
-    → map log_of_cell cells ≡ replicate n [] → All (λ cell. All P (log_of_cell cell)) cells
-start-new P n cells e = all-of (λ cell. All P (log_of_cell cell)) cells (go n cells e)
-  where
-    go : (n : ℕ) (cells : List SiteCell) → map log_of_cell cells ≡ replicate n []
-        → AllByRecursion (λ cell. All P (log_of_cell cell)) cells
-    go n [] e = tt
-    go zero (c ∷ cells) e = absurd (cc)
-    go (suc n) (c ∷ cells) e =
-        let here : log_of_cell c ≡ [] = cc in
-        let rest : map log_of_cell cells ≡ replicate n [] = cc in (
-          subst (All P) (sym here) (λ k d lt. absurd (omega (arith, lt))),
-          go n cells rest,
-        )
+  -- and none of them has one
+  pub start-new : (P : LogEntry → Type 0) (n : ℕ) (cells : List (LoggedCell D))
+      → map log_of_cell cells ≡ replicate n [] → All (λ cell. All P (log_of_cell cell)) cells
+  start-new P n cells e = all-of (λ cell. All P (log_of_cell cell)) cells (go n cells e)
+    where
+      go : (n : ℕ) (cells : List (LoggedCell D)) → map log_of_cell cells ≡ replicate n []
+          → AllByRecursion (λ cell. All P (log_of_cell cell)) cells
+      go n [] e = tt
+      go zero (c ∷ cells) e = absurd (cc)
+      go (suc n) (c ∷ cells) e =
+          let here : log_of_cell c ≡ [] = cc in
+          let rest : map log_of_cell cells ≡ replicate n [] = cc in (
+            subst (All P) (sym here) (λ k d lt. absurd (omega (arith, lt))),
+            go n cells rest,
+          )
 
--- how many cells there are
-pub start-long : (names : List NameShards) (cells : List SiteCell)
-    → map log_of_cell cells ≡ no_logs names → length cells ≡ cells_in names + 1
-start-long names cells e =
-    let a = ap length e in
-    let b : length (map log_of_cell cells) ≡ length cells = simp length-map in
-    let c : length (no_logs names) ≡ cells_in names + 1 = simp length-replicate in
-    omega (arith, a, b, c)
+  -- how many cells there are
+  pub start-long : (names : List NameShards) (cells : List (LoggedCell D))
+      → map log_of_cell cells ≡ no_logs names → length cells ≡ cells_in names + 1
+  start-long names cells e =
+      let a = ap length e in
+      let b : length (map log_of_cell cells) ≡ length cells = simp length-map in
+      let c : length (no_logs names) ≡ cells_in names + 1 = simp length-replicate in
+      omega (arith, a, b, c)
 
-module _ (names : List NameShards) (limit : ℕ) (abouts : List CellAbout) (start : List Log)
+module _ (D : Type 0) (names : List NameShards) (limit : ℕ) (abouts : List CellAbout) (start : List Log)
     (all : List ℕ) (count : ℕ) (told : abouts ≡ abouts_of names limit)
     (begun : start ≡ no_logs names) where
   -- a pass of the table that starts
@@ -90,12 +91,12 @@ module _ (names : List NameShards) (limit : ℕ) (abouts : List CellAbout) (star
   }
 
   -- each new pass is the table's
-  pub fresh-own : (table : TableId) (key : Opening SiteCell) (numbers : List ℕ)
-      (inside : List TablePass) (made : List (PassOf TablePass))
+  pub fresh-own : (table : TableId) (key : Opening (LoggedCell D)) (numbers : List ℕ)
+      (inside : List (TablePass D)) (made : List (PassOf (TablePass D)))
       → IsOpened names limit key.cells.value → all ≡ key.numbers.value
       → AllByRecursion (Contains all) numbers → map content made ≡ map recorded inside
       → map known inside ≡ map new_pass numbers
-      → AllByRecursion (λ (p : TablePass). table_of p ≡ table) inside
+      → AllByRecursion (λ (p : TablePass D). table_of p ≡ table) inside
       → AllByRecursion (IsPassOf table key (layout_in names limit)) made
   fresh-own table key numbers inside [] o w l e f a = tt
   fresh-own table key numbers [] (p ∷ made) o w l e f a = absurd (cc)
@@ -108,7 +109,7 @@ module _ (names : List NameShards) (limit : ℕ) (abouts : List CellAbout) (star
         record {
           opened = o;
           inside = q;
-          there = ap (λ (t : Option TablePass × List CutMark × List OwnMark × ℕ). t.0) here;
+          there = ap (λ (t : Option (TablePass D) × List CutMark × List OwnMark × ℕ). t.0) here;
           table_is = a.0;
           numbered = ap (λ (k : Known CellAbout LogEntry). k.numbers) knows ∙ w;
           knowing = subst (IsKnowing names limit) (sym knows) (fresh-knowing n l.0);
@@ -119,7 +120,7 @@ module _ (names : List NameShards) (limit : ℕ) (abouts : List CellAbout) (star
       )
 
   -- and a writer that has done nothing
-  pub fresh-new : (numbers : List ℕ) (inside : List TablePass) (made : List (PassOf TablePass))
+  pub fresh-new : (numbers : List ℕ) (inside : List (TablePass D)) (made : List (PassOf (TablePass D)))
       → count ≡ cells_in names + 1 → map content made ≡ map recorded inside
       → map known inside ≡ map new_pass numbers
       → map writer_of made ≡ map (new_writer names) numbers
@@ -134,7 +135,7 @@ module _ (names : List NameShards) (limit : ℕ) (abouts : List CellAbout) (star
       let knows : known q ≡ new_pass n = cc in
       let others : map known inside ≡ map new_pass numbers = cc in
       let is : writer_of p ≡ new_writer names n =
-      ap (λ (t : Option TablePass × List CutMark × List OwnMark × ℕ). writer_where t.0 t.1 t.2) here
+      ap (λ (t : Option (TablePass D) × List CutMark × List OwnMark × ℕ). writer_where t.0 t.1 t.2) here
       ∙ ((λ i. writer_in (knows i) [] [])
       ∙ (λ i. record {
         me = n;
@@ -146,38 +147,40 @@ module _ (names : List NameShards) (limit : ℕ) (abouts : List CellAbout) (star
       })) in
       (λ i. is i ∷ fresh-new numbers inside made c rest others i)
 
--- the looks of a pass's sight are its writer's
-pub looks-same : (o : Option TablePass) (marks : List CutMark) (own : List OwnMark)
-    → (sight_where o).looks ≡ (writer_where o marks own).looks
-looks-same None marks own = refl
-looks-same (Some p) marks own = refl
+module _ {D : Type 0} where
+  -- the looks of a pass's sight are its writer's
+  pub looks-same : (o : Option (TablePass D)) (marks : List CutMark) (own : List OwnMark)
+      → (sight_where o).looks ≡ (writer_where o marks own).looks
+  looks-same None marks own = refl
+  looks-same (Some p) marks own = refl
 
--- what its looks showed it has seen
-pub since-of : (table : TableId) (key : Opening SiteCell) (names : List NameShards) (limit : ℕ)
-    (o : Option TablePass) → IsPassIn table key (layout_in names limit) o → (cell : ℕ)
-    → 0 < slice_index (sight_where o).looks cell
-    → AreSeenOf (last_seen (sight_where o) cell) (sight_where o).seen
-since-of table key names limit o p =
-    let inside = sight_in (known p.inside) in
-    subst (λ x. (cell : ℕ) → 0 < slice_index (sight_where x).looks cell
-    → AreSeenOf (last_seen (sight_where x) cell) (sight_where x).seen) (sym p.there)
-    (λ cell looked. were-are (last_seen inside cell) inside.seen (p.knowing.since cell looked))
+  -- what its looks showed it has seen
+  pub since-of : (table : TableId) (key : Opening (LoggedCell D)) (names : List NameShards) (limit : ℕ)
+      (o : Option (TablePass D)) → IsPassIn table key (layout_in names limit) o → (cell : ℕ)
+      → 0 < slice_index (sight_where o).looks cell
+      → AreSeenOf (last_seen (sight_where o) cell) (sight_where o).seen
+  since-of table key names limit o p =
+      let inside = sight_in (known p.inside) in
+      subst (λ x. (cell : ℕ) → 0 < slice_index (sight_where x).looks cell
+      → AreSeenOf (last_seen (sight_where x) cell) (sight_where x).seen) (sym p.there)
+      (λ cell looked. were-are (last_seen inside cell) inside.seen (p.knowing.since cell looked))
 
--- the time of each new pass is 0
-pub fresh-now : (inside : List TablePass) (made : List (PassOf TablePass))
-    → map content made ≡ map recorded inside
-    → AllByRecursion (λ (p : PassOf TablePass). p.now ≡ 0) made
-fresh-now inside [] e = tt
-fresh-now [] (p ∷ made) e = absurd (cc)
-fresh-now (q ∷ inside) (p ∷ made) e =
-    let here : content p ≡ recorded q = cc in
-    let rest : map content made ≡ map recorded inside = cc in (
-      ap (λ (t : Option TablePass × List CutMark × List OwnMark × ℕ). t.3) here,
-      fresh-now inside made rest,
-    )
+  -- the time of each new pass is 0
+  pub fresh-now : (inside : List (TablePass D)) (made : List (PassOf (TablePass D)))
+      → map content made ≡ map recorded inside
+      → AllByRecursion (λ (p : PassOf (TablePass D)). p.now ≡ 0) made
+  fresh-now inside [] e = tt
+  fresh-now [] (p ∷ made) e = absurd (cc)
+  fresh-now (q ∷ inside) (p ∷ made) e =
+      let here : content p ≡ recorded q = cc in
+      let rest : map content made ≡ map recorded inside = cc in (
+        ap (λ (t : Option (TablePass D) × List CutMark × List OwnMark × ℕ). t.3) here,
+        fresh-now inside made rest,
+      )
 
--- no cell waits for a log, or is shut
-pub all-idle : (cells : List SiteCell)
-    → AllByRecursion (λ cell. IsSettled cell × (is_closed cell ≡ false)) cells
-all-idle [] = tt
-all-idle (cell ∷ cells) = ((tt, refl), all-idle cells)
+  -- a cell without a log waits for none, and isn't shut
+  pub idle-alone : (seen : D → Option (List ℕ)) (may_leave : D → List ℕ → Type 0)
+      (cell : LoggedCell D) → cell.log ≡ None
+      → IsSettled seen may_leave cell × (is_closed cell ≡ false)
+  idle-alone seen may_leave cell none =
+      (∣ subst (IsInStepWith seen may_leave cell.value) (sym none) tt ∣₁, ap is_shut_in none)

@@ -25,12 +25,13 @@ use Rattle.turn_table.specs.Histories.{at}
 use Rattle.turn_table.specs.declared.knowledge.Known.{Known}
 use Rattle.turn_table.specs.declared.turn.Turn.{Turn}
 use Rattle.site_cells.specs.Cells.{abouts_of}
-use Rattle.site_cells.specs.Values.{about_book, about_in, about_of, about_shard, log_in, log_of_cell, CanReserve, IsOver, IsRefused, IsStepRefusal, IsTaken}
+use Rattle.logged_cells.specs.Cells.{about_in, log_of_cell}
+use Rattle.site_cells.specs.Values.{about_book, about_of, about_shard, log_in, CanReserve, IsOver, IsRefused, IsStepRefusal, IsTaken}
 use Rattle.site_cells.specs.declared.cell_refusal.CellRefusal.{CellRefusal}
 use Rattle.site_cells.specs.declared.cell_refusal.CellRefusal.TheVariants.{ShardFull, TopicBound, BookFull, OutOfMemory}
 use Rattle.site_cells.specs.declared.cell_value.CellValue.{CellValue}
 use Rattle.site_cells.specs.declared.cell_value.CellValue.TheVariants as value
-use Rattle.site_cells.specs.declared.site_cell.SiteCell.{SiteCell}
+use Rattle.logged_cells.specs.declared.logged_cell.LoggedCell.{LoggedCell}
 use Rattle.site_cells.proofs.CellLemmas.{book_in-log_of_book}
 use Rattle.running_site.specs.Seals.{IsFitting, IsFull, IsRefusal}
 use Rattle.running_site.specs.Visits.{AreCounted, IsTurn, IsVisit}
@@ -89,9 +90,9 @@ same-shard a b e = ap (λ (s : Shard). s.entries) (let same : a ≡ b = cc in sa
 pub same-book : (a b : Kept) → value.Book a ≡ value.Book b → a.entries ≡ b.entries
 same-book a b e = ap (λ (s : Kept). s.entries) (let same : a ≡ b = cc in same)
 
-module _ (names : List NameShards) (limit : ℕ) (k : Known CellAbout LogEntry)
-    (t : Turn SiteCell) (v : IsVisit names limit k (Some t)) (cell : ℕ) (here : t.cell ≡ cell)
-    (y : SiteCell) (there : t.value ≡ Some y) where
+module _ {D : Type 0} (names : List NameShards) (limit : ℕ) (k : Known CellAbout LogEntry)
+    (t : Turn (LoggedCell D)) (v : IsVisit names limit k (Some t)) (cell : ℕ) (here : t.cell ≡ cell)
+    (y : LoggedCell D) (there : t.value ≡ Some y) where
   abbrev turn : IsTurn names k t
   turn = v.holding t refl
 

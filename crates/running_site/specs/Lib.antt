@@ -5,3 +5,4 @@ pub mod Sites
 pub mod Records
 pub mod Ends
 pub mod Alone
+pub mod Plain

@@ -18,18 +18,18 @@ use Rattle.turn_table.specs.declared.knowledge.Known.{Known}
 use Rattle.turn_table.specs.declared.pass.Pass.{Pass}
 use Rattle.turn_table.specs.declared.rule.Opening.{Opening}
 use Rattle.site_cells.specs.Cells.{abouts_of, no_logs}
-use Rattle.site_cells.specs.Values.{about_in, log_of_cell}
+use Rattle.logged_cells.specs.Cells.{about_in, log_of_cell}
 use Rattle.topic_book.specs.Cells.{Place, cells_in, place_of}
-use Rattle.site_cells.specs.declared.site_cell.SiteCell.{SiteCell}
+use Rattle.logged_cells.specs.declared.logged_cell.LoggedCell.{LoggedCell}
 use Rattle.running_site.specs.declared.pass.PassOf.{PassOf}
 
 -- no fault at so many cells
 abbrev pub no_faults : ℕ → Faults
 no_faults cells = record { barred = replicate cells 0; broke = replicate cells 0 }
 
--- a pass of the site's table
-abbrev pub TablePass : Type 0
-TablePass = Pass SiteCell CellAbout LogEntry
+-- a pass of the table of a site whose cells may have logs on such disks
+abbrev pub TablePass : Type 0 → Type 0
+TablePass D = Pass (LoggedCell D) CellAbout LogEntry
 
 -- the writer that a pass with this record is
 abbrev pub writer_in : Known CellAbout LogEntry → List CutMark → List OwnMark → Writer
@@ -50,26 +50,27 @@ sight_in k = record { seen = k.seen; looks = k.looks; asof = k.asof }
 abbrev pub layout_in : List NameShards → ℕ → Layout
 layout_in names limit = record { names = names; limit = limit }
 
--- the writer that a pass is; one that is away in a call has seen nothing
-abbrev pub writer_where : Option TablePass → List CutMark → List OwnMark → Writer
-writer_where None marks own =
-    record { me = 0; seen = []; marks = marks; own = own; looks = []; faults = no_faults 0 }
-writer_where (Some p) marks own = writer_in (known p) marks own
+module _ {D : Type 0} where
+  -- the writer that a pass is; one that is away in a call has seen nothing
+  abbrev pub writer_where : Option (TablePass D) → List CutMark → List OwnMark → Writer
+  writer_where None marks own =
+      record { me = 0; seen = []; marks = marks; own = own; looks = []; faults = no_faults 0 }
+  writer_where (Some p) marks own = writer_in (known p) marks own
 
-abbrev pub writer_of : PassOf TablePass → Writer
-writer_of pass = writer_where pass.pass pass.marks.items pass.own.items
+  abbrev pub writer_of : PassOf (TablePass D) → Writer
+  writer_of pass = writer_where pass.pass pass.marks.items pass.own.items
 
--- the number of a pass
-abbrev pub number_of : PassOf TablePass → ℕ
-number_of pass = (writer_of pass).me
+  -- the number of a pass
+  abbrev pub number_of : PassOf (TablePass D) → ℕ
+  number_of pass = (writer_of pass).me
 
--- its sight
-abbrev pub sight_where : Option TablePass → Sight
-sight_where None = record { seen = []; looks = []; asof = [] }
-sight_where (Some p) = sight_in (known p)
+  -- its sight
+  abbrev pub sight_where : Option (TablePass D) → Sight
+  sight_where None = record { seen = []; looks = []; asof = [] }
+  sight_where (Some p) = sight_in (known p)
 
-abbrev pub sight_of : PassOf TablePass → Sight
-sight_of pass = sight_where pass.pass
+  abbrev pub sight_of : PassOf (TablePass D) → Sight
+  sight_of pass = sight_where pass.pass
 
 -- each log that was seen early begins what was seen late
 abbrev pub WereSeen : List Log → List Log → Type 0
@@ -104,25 +105,26 @@ pub record IsKnowing (names : List NameShards) (limit : ℕ) (k : Known CellAbou
       → WereSeen (last_seen (sight_in k) cell) k.seen
   pub fit : AreSeenFit names k.seen
 
--- the cells with which a site of these collections started: all had no entry
-pub record IsOpened (names : List NameShards) (limit : ℕ) (cells : List SiteCell) : Type 0 where
-  pub told : map about_in cells ≡ abouts_of names limit
-  pub empty : map log_of_cell cells ≡ no_logs names
+module _ {D : Type 0} where
+  -- the cells with which a site of these collections started: all had no entry
+  pub record IsOpened (names : List NameShards) (limit : ℕ) (cells : List (LoggedCell D)) : Type 0 where
+    pub told : map about_in cells ≡ abouts_of names limit
+    pub empty : map log_of_cell cells ≡ no_logs names
 
--- the pass was made for this table, which started with these cells and numbers of passes, and has
--- no turn
-pub record IsPassIn (table : TableId) (key : Opening SiteCell) (l : Layout) (p : Option TablePass)
-    : Type 0 where
-  pub opened : IsOpened l.names l.limit key.cells.value
-  pub inside : TablePass
-  pub there : p ≡ Some inside
-  pub table_is : table_of inside ≡ table
-  pub numbered : (known inside).numbers ≡ key.numbers.value
-  pub knowing : IsKnowing l.names l.limit (known inside)
-  pub free : IsFree (known inside)
+  -- the pass was made for this table, which started with these cells and numbers of passes, and has
+  -- no turn
+  pub record IsPassIn (table : TableId) (key : Opening (LoggedCell D)) (l : Layout) (p : Option (TablePass D))
+      : Type 0 where
+    pub opened : IsOpened l.names l.limit key.cells.value
+    pub inside : TablePass D
+    pub there : p ≡ Some inside
+    pub table_is : table_of inside ≡ table
+    pub numbered : (known inside).numbers ≡ key.numbers.value
+    pub knowing : IsKnowing l.names l.limit (known inside)
+    pub free : IsFree (known inside)
 
-abbrev pub IsPassOf : TableId → Opening SiteCell → Layout → PassOf TablePass → Type 0
-IsPassOf table key l pass = IsPassIn table key l pass.pass
+  abbrev pub IsPassOf : TableId → Opening (LoggedCell D) → Layout → PassOf (TablePass D) → Type 0
+  IsPassOf table key l pass = IsPassIn table key l pass.pass
 
 -- the numbers from 1 to the count
 abbrev pub numbers_to : ℕ → List ℕ

@@ -15,10 +15,11 @@ ghost use Rattle.tuple_values.specs.Document.{ByteList};
 ghost use Rattle.running_site.specs.Passes.{number_of, sight_of, writer_of};
 ghost use Rattle.running_site.specs.Sites.{layout_at, IsPassAt};
 
-use crate::{Pass, SiteOf};
+use crate::{PassOn, SiteOf};
+use disk_edge::Disk;
 use exchange_rules::{Batch, Sent, SiteFault};
+use logged_cells::LoggedCell;
 use shard_versions::Cut;
-use site_cells::SiteCell;
 use std::alloc::Global;
 use std::sync::Wait;
 use stream_site::{
@@ -28,7 +29,7 @@ use stream_site::{
 use topic_book::{Binding, TopicKey};
 use tuple_values::{FieldList, Names, Text, Versions, Writes};
 
-impl SiteOf<SiteCell> {
+impl<D: Disk> SiteOf<LoggedCell<D>> {
     /// The collections.
     pub fn names(&self) -> &Names
         ensures { result.now ≡ self.now.names }
@@ -42,7 +43,7 @@ impl SiteOf<SiteCell> {
         &self,
         rt: &R,
         alloc: Global,
-        pass: &mut Pass,
+        pass: &mut PassOn<D>,
         collections: &FieldList,
     ) -> Result<Cut, SiteFault>
         requires { IsPassAt self.now pass.old }
@@ -67,7 +68,7 @@ impl SiteOf<SiteCell> {
         &self,
         rt: &R,
         alloc: Global,
-        pass: &mut Pass,
+        pass: &mut PassOn<D>,
         collection: &Text,
         writes: Writes,
         commit: bool,
@@ -93,7 +94,7 @@ impl SiteOf<SiteCell> {
         &self,
         rt: &R,
         alloc: Global,
-        pass: &mut Pass,
+        pass: &mut PassOn<D>,
         collection: &Text,
     ) -> Result<(), SiteFault>
         requires { IsPassAt self.now pass.old }
@@ -115,7 +116,7 @@ impl SiteOf<SiteCell> {
         &self,
         rt: &R,
         alloc: Global,
-        pass: &mut Pass,
+        pass: &mut PassOn<D>,
         dest: &Text,
         src: &Text,
         batch: Batch,
@@ -140,7 +141,7 @@ impl SiteOf<SiteCell> {
         &self,
         rt: &R,
         alloc: Global,
-        pass: &mut Pass,
+        pass: &mut PassOn<D>,
         key: &TopicKey,
     ) -> Result<Option<Versions>, SiteFault>
         requires { IsPassAt self.now pass.old }
@@ -162,7 +163,7 @@ impl SiteOf<SiteCell> {
         &self,
         rt: &R,
         alloc: Global,
-        pass: &mut Pass,
+        pass: &mut PassOn<D>,
         key: &TopicKey,
         binding: Binding,
     ) -> Result<Versions, SiteFault>
@@ -186,7 +187,7 @@ impl SiteOf<SiteCell> {
         &self,
         rt: &R,
         alloc: Global,
-        pass: &mut Pass,
+        pass: &mut PassOn<D>,
         key: &TopicKey,
         upto: Versions,
     ) -> Result<(), SiteFault>

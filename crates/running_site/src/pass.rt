@@ -3,9 +3,10 @@ ghost use Rattle.std.specs.Prelude.{◌≡◌};
 ghost use Rattle.exchange_rules.specs.Following.{cleared};
 ghost use Rattle.running_site.specs.Passes.{number_of, sight_of, writer_of};
 
+use disk_edge::MemoryDisk;
 use exchange_rules::LogEntry;
+use logged_cells::LoggedCell;
 use shard_versions::{CutMark, CutMarks, OwnMark, OwnMarks, Record};
-use site_cells::SiteCell;
 use site_laws::CellAbout;
 use std::alloc::Global;
 use std::mem::replace;
@@ -23,15 +24,21 @@ pub struct PassOf<P> {
     pub(crate) now: u64,
 }
 
-pub(crate) type TablePass = turn_table::Pass<SiteCell, CellAbout, LogEntry>;
+pub(crate) type TablePass<D> = turn_table::Pass<LoggedCell<D>, CellAbout, LogEntry>;
 
-/// A pass of a site, which one thread carries from call to call.
-pub type Pass = PassOf<TablePass>;
+/// A pass of a site whose cells may have logs on such disks. One thread carries it from call to call.
+pub type PassOn<D> = PassOf<TablePass<D>>;
 
-/// Passes of a site.
-pub type Passes = Sequence<Pass>;
+/// Passes of such a site.
+pub type PassesOn<D> = Sequence<PassOn<D>>;
 
-impl PassOf<TablePass> {
+/// A pass of a site without logs.
+pub type Pass = PassOn<MemoryDisk>;
+
+/// Passes of a site without logs.
+pub type Passes = PassesOn<MemoryDisk>;
+
+impl<D> PassOf<TablePass<D>> {
     /// The time at which the pass works, in milliseconds. Nothing reads it yet.
     pub fn now(&self) -> u64
         ensures { result ≡ self.entry.now.now }

@@ -3,12 +3,12 @@ ghost use Rattle.std.specs.Prelude.{◌≡◌, ◌++◌, IfOk, OnOk, map};
 ghost use Rattle.running_site.specs.Records.{content, inside_of, passes_in, recorded};
 
 use crate::pass::TablePass;
-use crate::{Pass, PassOf, Passes};
+use crate::{PassOf, PassOn, PassesOn};
 use std::alloc::Global;
 use tuple_values::{Memory, Sequence};
 
 /// The pass with an empty record, at the time 0.
-fn with_record(alloc: Global, pass: TablePass) -> Pass
+fn with_record<D>(alloc: Global, pass: TablePass<D>) -> PassOn<D>
     ensures { content result ≡ recorded pass }
 {
     PassOf {
@@ -21,10 +21,13 @@ fn with_record(alloc: Global, pass: TablePass) -> Pass
 }
 
 /// Each pass with an empty record, at the time 0.
-pub(crate) fn with_records(alloc: Global, passes: Sequence<TablePass>) -> Result<Passes, Memory>
+pub(crate) fn with_records<D: Drop>(
+    alloc: Global,
+    passes: Sequence<TablePass<D>>,
+) -> Result<PassesOn<D>, Memory>
     ensures { IfOk result (λ made. map content made ≡ map recorded passes) }
 {
-    let mut made = Passes::new(alloc);
+    let mut made = PassesOn::new(alloc);
     for pass in passes.into_vec() {
         made.push(with_record(alloc, pass))?;
     }
@@ -32,7 +35,10 @@ pub(crate) fn with_records(alloc: Global, passes: Sequence<TablePass>) -> Result
 }
 
 /// The pass behind the others, where it is there.
-fn keep(passes: &mut Sequence<TablePass>, pass: Option<TablePass>) -> Result<(), Memory>
+fn keep<D: Drop>(
+    passes: &mut Sequence<TablePass<D>>,
+    pass: Option<TablePass<D>>,
+) -> Result<(), Memory>
     ensures { OnOk result (passes.new ≡ passes.old ++ inside_of pass) }
 {
     match pass {
@@ -42,7 +48,10 @@ fn keep(passes: &mut Sequence<TablePass>, pass: Option<TablePass>) -> Result<(),
 }
 
 /// The passes alone.
-pub(crate) fn without_records(alloc: Global, passes: Passes) -> Result<Sequence<TablePass>, Memory>
+pub(crate) fn without_records<D: Drop>(
+    alloc: Global,
+    passes: PassesOn<D>,
+) -> Result<Sequence<TablePass<D>>, Memory>
     ensures { IfOk result (λ made. made ≡ passes_in passes) }
 {
     let mut made = Sequence::new(alloc);

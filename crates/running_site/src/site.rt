@@ -3,7 +3,8 @@ ghost use Rattle.std.specs.Prelude.{◌≡◌, ◌+◌, ◌<◌};
 ghost use Rattle.topic_book.specs.Cells.{cells_in};
 ghost use Rattle.running_site.specs.Passes.{numbers_to};
 
-use site_cells::SiteCell;
+use disk_edge::MemoryDisk;
+use logged_cells::LoggedCell;
 use tuple_values::Names;
 use turn_table::{CellState, TurnTable};
 
@@ -21,5 +22,8 @@ pub struct SiteOf<C: CellState> {
     ghost numbered: { table.board.shared.key.numbers.value ≡ numbers_to passes },
 }
 
-/// A site of shards and a book.
-pub type Site = SiteOf<SiteCell>;
+/// A site of shards and a book, whose cells may have logs on such disks.
+pub type SiteOn<D> = SiteOf<LoggedCell<D>>;
+
+/// A site without logs. Its disks, of which it has none, would be in memory.
+pub type Site = SiteOn<MemoryDisk>;

@@ -5,14 +5,15 @@ ghost use Rattle.running_site.specs.Passes.{sight_in, sight_of, writer_in, write
 ghost use Rattle.running_site.specs.Sites.{IsPassAt};
 
 use crate::visit::Visit;
-use crate::{Pass, Site, SiteOf};
-use site_cells::SiteCell;
+use crate::{PassOn, SiteOf};
+use disk_edge::Disk;
+use logged_cells::LoggedCell;
 use std::mem::replace;
 
-impl SiteOf<SiteCell> {
+impl<D: Disk> SiteOf<LoggedCell<D>> {
     /// The pass with its record comes to the site, for calls over a writer's turns. It is away from
     /// its holder until the visit ends, and no call of the site takes it before.
-    pub fn visit<'a, R>(&'a self, rt: &'a R, pass: &mut Pass) -> Visit<'a, R>
+    pub fn visit<'a, R>(&'a self, rt: &'a R, pass: &mut PassOn<D>) -> Visit<'a, R, D>
         requires { IsPassAt self.now pass.old }
         ensures site { result.site.now ≡ self.now }
         ensures free { result.turn ≡ None }
@@ -39,10 +40,10 @@ impl SiteOf<SiteCell> {
     }
 }
 
-impl<R> Visit<'_, R> {
+impl<R, D: Disk> Visit<'_, R, D> {
     /// The pass goes with its record. A visit that has a turn can't end: each call over a writer's
     /// turns gives its last one back, and so does `leave`.
-    pub fn end(self, pass: &mut Pass)
+    pub fn end(self, pass: &mut PassOn<D>)
         requires { self.turn ≡ None }
         ensures own { IsPassAt self.entry.site.now pass.new }
         ensures writer { writer_of pass.new ≡ writer_in (known self.entry.pass)

@@ -1,33 +1,40 @@
 // A pass at its site as a writer: what it does by turns.
-ghost use Rattle.std.specs.Prelude.{◌≡◌, ◌<◌, ◌∷◌, ◌↔◌, [], true, None, Some, get_or, map, IfErr, IsErrOf, OnErr, OnOk};
+ghost use Rattle.std.specs.Prelude.{◌≡◌, ◌<◌, ◌∷◌, ◌↔◌, [], true, false, None, Some, get_or, map, List, IfErr, IfSome, IsErrOf, OnErr, OnOk};
 ghost use Rattle.topic_book.specs.Cells.{cells_in};
 ghost use Rattle.exchange_rules.specs.Bindings.{book_cell, book_seen};
 ghost use Rattle.exchange_rules.specs.Cells.{history_in, payload_of, signed, write};
 ghost use Rattle.exchange_rules.specs.Primitives.{made};
-ghost use Rattle.exchange_rules.specs.Steps.{is_full, kinds_of};
+ghost use Rattle.exchange_rules.specs.Steps.{is_full, kinds_of, writes_in};
+ghost use Rattle.stream_site.specs.Refusals.{IsUnsealed, StaysWith};
 ghost use Rattle.site_laws.specs.Sealings.{entries_of, MayAppend};
-ghost use Rattle.turn_table.specs.Calls.{known};
+ghost use Rattle.turn_table.specs.Calls.{fault_word, known, table_of, turn_faults};
+ghost use Rattle.logged_cells.specs.Cells.{faults_of, is_closed, IsSettled};
+ghost use Rattle.shard_versions.specs.declared.cut.CutMark.{CutMark};
+ghost use Rattle.shard_versions.specs.declared.cut.OwnMark.{OwnMark};
 ghost use Rattle.turn_table.specs.Histories.{at};
 ghost use Rattle.running_site.specs.Passes.{layout_in, writer_in};
-ghost use Rattle.running_site.specs.Seals.{IsFitting, IsRefusal, IsSealed, IsBookRefusal, IsShardRefusal, IsWhole, book_fault_of, step_refusal_of};
-ghost use Rattle.running_site.specs.Visits.{AreCounted, HasTurn};
+ghost use Rattle.running_site.specs.Seals.{IsFitting, IsRefusalOf, IsSealed, LeavesWriter, StaysIn, UnlessBroken, IsGivable, made_by, writes_of};
+ghost use Rattle.running_site.specs.Visits.{AreCounted, HasTurn, IsNoted, IsSound, IsVisit};
 
-use crate::Site;
+use crate::SiteOn;
+use crate::pass::TablePass;
+use crate::refusal::{SealRefusal, unsealed, unsealed_entry};
 use crate::sealing::seal_in;
 use crate::visit::Visit;
+use disk_edge::Disk;
+use logged_cells::LoggedCell;
 use shard_versions::{CutMark, CutMarks, OwnMarks, Record, ShardState, Snapshot, Step};
-use site_cells::{CellRefusal, SiteCell};
 use site_laws::Sealing;
 use std::alloc::Global;
 use std::mem::replace;
 use std::sync::Wait;
 use stream_site::{EntryRefusal, LookRefusal, StepRefusal, Turns, admitted, close};
-use topic_book::{Binding, BookEntry, BookFault, BookState, TopicKey};
+use topic_book::{Binding, BookEntry, BookState, TopicKey};
 use tuple_values::{Memory, Names, Versions};
 use turn_table::{CellState, Turn};
 
 /// Keeps the turn, where there is none.
-fn hold(slot: &mut Option<Turn<SiteCell>>, turn: Turn<SiteCell>)
+fn hold<D: Drop>(slot: &mut Option<Turn<LoggedCell<D>>>, turn: Turn<LoggedCell<D>>)
     requires { slot.old ≡ None }
     ensures { slot.new ≡ Some turn }
 {
@@ -37,33 +44,40 @@ fn hold(slot: &mut Option<Turn<SiteCell>>, turn: Turn<SiteCell>)
     }
 }
 
-/// Why a shard made no room, as the refusal of a step.
-fn step_refusal(refusal: CellRefusal) -> StepRefusal
-    requires { IsShardRefusal refusal }
-    ensures { result ≡ step_refusal_of refusal }
+/// Keeps the turn, or gives it back where the cell's log failed.
+fn hold_or_give<D: Disk>(
+    site: &SiteOn<D>,
+    pass: &mut TablePass<D>,
+    slot: &mut Option<Turn<LoggedCell<D>>>,
+    turn: Turn<LoggedCell<D>>,
+    answer: &Result<(), SealRefusal>,
+)
+    requires empty { slot.old ≡ None }
+    requires seated { table_of pass.old ≡ site.now.table.board.shared.table_id }
+    requires visit { IsVisit site.now.names site.now.limit (known pass.old) (Some turn) }
+    requires noted { fault_word pass.old turn.cell ≡ turn_faults (faults_of D.faults) turn }
+    requires givable { IsGivable D.seen D.may_leave turn }
+    requires sound { UnlessBroken (IfSome turn.value
+        (λ cell. IsSettled D.seen D.may_leave cell × (is_closed cell ≡ false))) answer.now }
+    ensures seated { table_of pass.new ≡ table_of pass.old }
+    ensures visit { IsVisit site.now.names site.now.limit (known pass.new) slot.new }
+    ensures noted { IsNoted D.faults pass.new slot.new }
+    ensures sound { IsSound D.seen D.may_leave slot.new }
+    ensures numbers { (known pass.new).numbers ≡ (known pass.old).numbers }
+    ensures writer { (marks : List CutMark) (own : List OwnMark)
+        → writer_in (known pass.new) marks own ≡ writer_in (known pass.old) marks own }
+    ensures known { OnOk answer.now (known pass.new ≡ known pass.old) }
+    ensures holds { OnOk answer.now (HasTurn slot.new turn.cell) }
+    ensures turn { IfErr answer.now (StaysIn (HasTurn slot.new turn.cell) (slot.new ≡ None)) }
 {
-    match refusal {
-        CellRefusal::ShardFull => StepRefusal::ShardFull,
-        CellRefusal::TopicBound { kept: _ } => unreachable!(),
-        CellRefusal::BookFull { topics: _ } => unreachable!(),
-        CellRefusal::OutOfMemory => StepRefusal::OutOfMemory,
+    match answer {
+        Ok(()) => hold(slot, turn),
+        Err(SealRefusal::NoRoom(_)) => hold(slot, turn),
+        Err(SealRefusal::Broken { writes: _ }) => site.table.give(pass, turn),
     }
 }
 
-/// Why the book made no room, as the book's fault.
-fn book_fault(refusal: CellRefusal) -> BookFault
-    requires { IsBookRefusal refusal }
-    ensures { result ≡ book_fault_of refusal }
-{
-    match refusal {
-        CellRefusal::ShardFull => unreachable!(),
-        CellRefusal::TopicBound { kept } => BookFault::TopicBound { kept },
-        CellRefusal::BookFull { topics } => BookFault::BookFull { topics },
-        CellRefusal::OutOfMemory => BookFault::OutOfMemory,
-    }
-}
-
-impl<R> Visit<'_, R> {
+impl<R, D: Disk> Visit<'_, R, D> {
     /// The shard whose turn the pass has, which it has seen whole.
     fn shard(&self, cell: u32) -> &ShardState
         requires cell { cell < cells_in self.now.site.now.names }
@@ -91,21 +105,27 @@ impl<R> Visit<'_, R> {
         }
     }
 
-    /// Appends a sealing behind what the pass has seen of the cell whose turn it has.
-    fn append(&mut self, cell: u32, sealing: Sealing) -> Result<(), CellRefusal>
+    /// Appends a sealing behind what the pass has seen of the cell whose turn it has. Where the log
+    /// failed at that, the turn is given back.
+    fn append(&mut self, cell: u32, sealing: Sealing) -> Result<(), SealRefusal>
         requires holds { HasTurn self.old.turn cell }
         requires allowed { MayAppend self.old.site.now.names (known self.old.pass).number
             (known self.old.pass).seen cell sealing }
         ensures site { self.new.site.now ≡ self.old.site.now }
-        ensures holds { HasTurn self.new.turn cell }
+        ensures holds { OnOk result (HasTurn self.new.turn cell) }
+        ensures turn { IfErr result
+            (StaysIn (HasTurn self.new.turn cell) (self.new.turn ≡ None)) }
         ensures marks { self.new.marks ≡ self.old.marks }
         ensures ok { OnOk result (IsSealed (known self.old.pass) (known self.new.pass)
             self.old.own.items self.new.own.items cell sealing) }
-        ensures err { OnErr result ((known self.new.pass ≡ known self.old.pass)
-            × (self.new.own.items ≡ self.old.own.items)) }
+        ensures err { IfErr result (LeavesWriter
+            (writer_in (known self.old.pass) self.old.marks.items self.old.own.items)
+            (made_by (known self.old.pass) self.old.marks.items self.old.own.items cell sealing)
+            cell (writes_of sealing)
+            (writer_in (known self.new.pass) self.new.marks.items self.new.own.items)) }
         ensures fits { OnOk result (IsFitting self.old.site.now.limit
             (at (known self.old.pass).seen cell) sealing) }
-        ensures cause { IfErr result (λ refusal. IsRefusal self.old.site.now.limit
+        ensures cause { IfErr result (λ refusal. IsRefusalOf self.old.site.now.limit
             (at (known self.old.pass).seen cell) sealing refusal) }
     {
         let Some(mut turn) = self.turn.take() else {
@@ -119,7 +139,7 @@ impl<R> Visit<'_, R> {
             cell,
             sealing,
         );
-        hold(&mut self.turn, turn);
+        hold_or_give(self.site, &mut self.pass, &mut self.turn, turn, &result);
         result
     }
 
@@ -129,28 +149,33 @@ impl<R> Visit<'_, R> {
         requires allowed { MayAppend self.old.site.now.names (known self.old.pass).number
             (known self.old.pass).seen cell (Sealing.Shard step) }
         ensures site { self.new.site.now ≡ self.old.site.now }
-        ensures holds { HasTurn self.new.turn cell }
+        ensures holds { OnOk result (HasTurn self.new.turn cell) }
+        ensures turn { IfErr result
+            (StaysWith (HasTurn self.new.turn cell) (self.new.turn ≡ None)) }
         ensures marks { self.new.marks ≡ self.old.marks }
         ensures ok { OnOk result
             (writer_in (known self.new.pass) self.new.marks.items self.new.own.items
             ≡ made (writer_in (known self.old.pass) self.old.marks.items self.old.own.items) cell
             (map write (kinds_of step))) }
-        ensures err { OnErr result
-            (writer_in (known self.new.pass) self.new.marks.items self.new.own.items
-            ≡ writer_in (known self.old.pass) self.old.marks.items self.old.own.items) }
-        ensures whole { IfErr result IsWhole }
+        ensures err { IfErr result (IsUnsealed
+            (is_full self.old.site.now.limit (history_in (at (known self.old.pass).seen cell))
+            (kinds_of step) ≡ false)
+            (writer_in (known self.old.pass) self.old.marks.items self.old.own.items)
+            (made (writer_in (known self.old.pass) self.old.marks.items self.old.own.items) cell
+            (map write (kinds_of step))) cell (writes_in (kinds_of step))
+            (writer_in (known self.new.pass) self.new.marks.items self.new.own.items)) }
         ensures shard_full { IsErrOf result StepRefusal.ShardFull
             ↔ (is_full self.old.site.now.limit (history_in (at (known self.old.pass).seen cell))
             (kinds_of step) ≡ true) }
     {
         match self.append(cell, Sealing::Shard(step)) {
             Ok(()) => Ok(()),
-            Err(refusal) => Err(step_refusal(refusal)),
+            Err(refusal) => Err(unsealed(refusal)),
         }
     }
 }
 
-impl<R: Wait> Turns for Visit<'_, R> {
+impl<R: Wait, D: Disk> Turns for Visit<'_, R, D> {
     ghost use Rattle.std.specs.Prelude.{◌≡◌, ◌-◌, None, vec_capacity, vec_len};
     ghost use Rattle.std.proofs.Common.{refl, ap, ◌∙◌};
     ghost use Rattle.turn_table.specs.Calls.{known};
@@ -159,7 +184,7 @@ impl<R: Wait> Turns for Visit<'_, R> {
     ghost use Rattle.running_site.specs.Passes.{layout_in, sight_in, writer_in};
     ghost use Rattle.running_site.specs.Visits.{HasTurn};
 
-    type Home = Site;
+    type Home = SiteOn<D>;
 
     ghost home = { λ v. v.site.now };
 
@@ -199,7 +224,7 @@ impl<R: Wait> Turns for Visit<'_, R> {
             Err(_) => return Err(LookRefusal::OutOfMemory),
         }
         let Some(turn) = self.site.table.turn(self.rt, &mut self.pass, cell) else {
-            unreachable!()
+            return Err(LookRefusal::Closed { cell });
         };
         self.site.table.look(&mut self.pass, &turn);
         let upto = turn.state().len();
@@ -266,7 +291,7 @@ impl<R: Wait> Turns for Visit<'_, R> {
         let cell = self.site.table.cells() - 1;
         match self.append(cell, Sealing::Book(entry)) {
             Ok(()) => Ok(()),
-            Err(refusal) => Err(EntryRefusal::Book(book_fault(refusal))),
+            Err(refusal) => Err(unsealed_entry(refusal)),
         }
     }
 

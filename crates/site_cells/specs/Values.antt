@@ -22,7 +22,6 @@ use Rattle.site_cells.specs.declared.cell_refusal.CellRefusal.{CellRefusal}
 use Rattle.site_cells.specs.declared.cell_refusal.CellRefusal.TheVariants.{ShardFull, TopicBound, BookFull, OutOfMemory}
 use Rattle.site_cells.specs.declared.cell_value.CellValue.{CellValue}
 use Rattle.site_cells.specs.declared.cell_value.CellValue.TheVariants as value
-use Rattle.site_cells.specs.declared.site_cell.SiteCell.{SiteCell}
 
 -- what is fixed of a shard's cell
 abbrev pub about_shard : List NameShards → ℕ → CellAbout
@@ -41,30 +40,6 @@ about_of names (value.Book b) = about_book names
 abbrev pub log_in : CellValue → Log
 log_in (value.Shard s) = log_of s.entries
 log_in (value.Book b) = log_of_book b.entries
-
--- what the cell holds
-abbrev pub value_of : SiteCell → CellValue
-value_of cell = cell.value
-
--- what is fixed of it
-abbrev pub about_in : SiteCell → CellAbout
-about_in cell = about_of cell.names.value cell.value
-
--- its log
-abbrev pub log_of_cell : SiteCell → Log
-log_of_cell cell = log_in cell.value
-
--- a cell has no log on a disk, so nothing waits for one
-abbrev pub IsSettled : SiteCell → Type 0
-IsSettled cell = Unit {0}
-
--- none is ever shut
-abbrev pub is_closed : SiteCell → Bool
-is_closed cell = false
-
--- and no disk of it fails
-abbrev pub faults_of : SiteCell → ℕ
-faults_of cell = 0
 
 -- the law over the logs of all cells: the core's
 abbrev pub law_of : List CellAbout → List Log → Type 0

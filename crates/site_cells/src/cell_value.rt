@@ -9,6 +9,7 @@ use crate::cell_refusal::refusal_of;
 use shard_versions::{ShardFault, ShardState};
 use site_laws::Sealing;
 use topic_book::BookState;
+use tuple_values::Sequence;
 
 /// A shard, or the book.
 #[derive(Drop)]
@@ -16,6 +17,9 @@ pub enum CellValue {
     Shard(ShardState),
     Book(BookState),
 }
+
+/// What the cells of a site hold, in the order of cells.
+pub type CellValues = Sequence<CellValue>;
 
 impl CellValue {
     /// Whether the counted bytes of the shard pass its limit with those of the step; never of the book.

@@ -7,7 +7,8 @@ use Rattle.tuple_values.specs.declared.names.NameShards.{NameShards}
 use Rattle.once_core.specs.Law.{IsLaw}
 use Rattle.exchange_rules.specs.Cells.{author_of, Log}
 use Rattle.stream_site.specs.Logs.{logs_in}
-use Rattle.running_site.specs.Passes.{layout_in, numbers_to, writer_of, TablePass}
+use Rattle.running_site.specs.Passes.{layout_in, numbers_to, writer_of}
+use Rattle.running_site.specs.Plain.{TablePass}
 use Rattle.running_site.specs.declared.pass.PassOf.{PassOf}
 use Rattle.site_server.specs.Doors.{Doors}
 use Rattle.site_server.specs.Ended.{IsEnded, IsRowServedBy, IsSeenOf, Worked}

@@ -2,8 +2,9 @@
 use Rattle.std.proofs.Common.{ℕ, zero, suc, ◌≡◌, ◌<◌, List, [], ◌∷◌, map, length, refl, ap, subst, sym, arith}
 use Rattle.std.specs.Prelude.{All, slice_index_or}
 use Rattle.std.proofs.lemmas.List.Elements.{All-nil, All-cons, All-head, All-tail}
-use Rattle.site_cells.specs.declared.site_cell.SiteCell.{SiteCell}
-use Rattle.running_site.specs.Passes.{number_of, TablePass}
+use Rattle.running_site.specs.Plain.{SiteCell}
+use Rattle.running_site.specs.Passes.{number_of}
+use Rattle.running_site.specs.Plain.{TablePass}
 use Rattle.running_site.specs.Sites.{IsPassAt}
 use Rattle.running_site.specs.declared.pass.PassOf.{PassOf}
 use Rattle.running_site.specs.declared.site.SiteOf.{SiteOf}

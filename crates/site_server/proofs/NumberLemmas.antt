@@ -3,7 +3,8 @@ use Rattle.std.proofs.Common.{ℕ, zero, suc, ◌≡◌, ◌+◌, List, [], ◌�
 use Rattle.tuple_values.specs.declared.names.NameShards.{NameShards}
 use Rattle.std.proofs.lemmas.List.{length-map, map-id}
 use Rattle.exchange_rules.specs.Following.{Writer}
-use Rattle.running_site.specs.Passes.{new_writer, numbers_to, number_of, writer_of, TablePass}
+use Rattle.running_site.specs.Passes.{new_writer, numbers_to, number_of, writer_of}
+use Rattle.running_site.specs.Plain.{TablePass}
 use Rattle.running_site.specs.declared.pass.PassOf.{PassOf}
 use Rattle.site_server.proofs.ListLemmas.{map-of}
 

@@ -4,8 +4,9 @@ use Rattle.std.specs.Prelude.{Contains, Some, None, is_some, option_to_list}
 use Rattle.std.specs.List.{AllByRecursion, list_any}
 use Rattle.exchange_rules.specs.Following.{Writer}
 use Rattle.exchange_rules.specs.Rows.{Layout}
-use Rattle.site_cells.specs.declared.site_cell.SiteCell.{SiteCell}
-use Rattle.running_site.specs.Passes.{new_writer, writer_of, TablePass}
+use Rattle.running_site.specs.Plain.{SiteCell}
+use Rattle.running_site.specs.Passes.{new_writer, writer_of}
+use Rattle.running_site.specs.Plain.{TablePass}
 use Rattle.running_site.specs.Sites.{layout_at}
 use Rattle.running_site.specs.declared.pass.PassOf.{PassOf}
 use Rattle.running_site.specs.declared.site.SiteOf.{SiteOf}

@@ -2,8 +2,9 @@
 use Rattle.std.specs.Prelude.{ℕ, ◌≡◌, Option, Some, None}
 use Rattle.exchange_rules.specs.Following.{Writer}
 use Rattle.exchange_rules.specs.Rows.{Layout}
-use Rattle.site_cells.specs.declared.site_cell.SiteCell.{SiteCell}
-use Rattle.running_site.specs.Passes.{number_of, writer_of, TablePass}
+use Rattle.running_site.specs.Plain.{SiteCell}
+use Rattle.running_site.specs.Passes.{number_of, writer_of}
+use Rattle.running_site.specs.Plain.{TablePass}
 use Rattle.running_site.specs.Sites.{layout_at, IsPassAt}
 use Rattle.running_site.specs.declared.pass.PassOf.{PassOf}
 use Rattle.running_site.specs.declared.site.SiteOf.{SiteOf}

@@ -1,7 +1,8 @@
 -- One pass as a list of passes.
 use Rattle.std.proofs.Common.{ℕ, zero, suc, ◌≡◌, List, [], ◌∷◌, map, sym, subst, arith}
 use Rattle.std.specs.Prelude.{All, Contains}
-use Rattle.running_site.specs.Passes.{TablePass, number_of, numbers_to}
+use Rattle.running_site.specs.Passes.{number_of, numbers_to}
+use Rattle.running_site.specs.Plain.{TablePass}
 use Rattle.running_site.specs.declared.pass.PassOf.{PassOf}
 
 -- what is so of one thing is so of each of one

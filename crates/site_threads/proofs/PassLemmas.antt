@@ -3,7 +3,8 @@ use Rattle.std.proofs.Common.{ℕ, ◌≡◌, List, [], ◌∷◌, map, refl, sy
 use Rattle.std.specs.Prelude.{All, Contains}
 use Rattle.tuple_values.specs.declared.names.NameShards.{NameShards}
 use Rattle.exchange_rules.specs.Following.{Writer}
-use Rattle.running_site.specs.Passes.{new_writer, number_of, numbers_to, writer_of, TablePass}
+use Rattle.running_site.specs.Passes.{new_writer, number_of, numbers_to, writer_of}
+use Rattle.running_site.specs.Plain.{TablePass}
 use Rattle.running_site.specs.declared.pass.PassOf.{PassOf}
 use Rattle.site_threads.specs.Workers.{number_in, pass_in, Worker}
 use Rattle.site_threads.proofs.ListLemmas.{all-there, map-of}

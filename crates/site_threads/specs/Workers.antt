@@ -1,10 +1,11 @@
 -- Workers at a site, each with a pass (own).
 use Rattle.std.specs.Prelude.{ℕ}
-use Rattle.running_site.specs.Passes.{number_of, TablePass}
+use Rattle.running_site.specs.Passes.{number_of}
+use Rattle.running_site.specs.Plain.{TablePass}
 use Rattle.running_site.specs.Sites.{IsPassAt}
 use Rattle.running_site.specs.declared.pass.PassOf.{PassOf}
 use Rattle.running_site.specs.declared.site.SiteOf.{SiteOf}
-use Rattle.site_cells.specs.declared.site_cell.SiteCell.{SiteCell}
+use Rattle.running_site.specs.Plain.{SiteCell}
 use Rattle.site_threads.specs.declared.workers.WorkerOf.{WorkerOf}
 
 -- a worker whose pass is one of a running site

@@ -8,7 +8,7 @@ ghost use Rattle.stream_commands.specs.Replies.{alone_outcome, meaning, outcome_
 use crate::ending::Ending;
 use crate::input::{ReadFault, read_input};
 use io_edge::{Gate, Put, Sink, Source};
-use running_site::SiteOf;
+use running_site::Site;
 use std::alloc::Global;
 use std::sync::Wait;
 use std::thread::Threads;
@@ -44,7 +44,7 @@ fn evaluate<R: Threads + Wait + Sync, G: Gate>(
     ensures alone { IfOk result (λ outcome. outcome ≡ alone_outcome names bytes.now) }
     ensures meant { IfOk result (λ outcome. outcome ≡ outcome_of (meaning names bytes.now)) }
 {
-    let (site, mut pass) = SiteOf::start_alone(alloc, names, SHARD_LIMIT)?;
+    let (site, mut pass) = Site::start_alone(alloc, names, SHARD_LIMIT)?;
     let mut visit = site.visit(rt, &mut pass);
     let outcome = run_plain_expression(rt, alloc, &mut visit, bytes, gate);
     visit.watch();

@@ -14,7 +14,7 @@ use daemon_board::Board;
 use daemon_steps::run_daemons;
 use form_request::Requests;
 use io_edge::{Gate, Sink, Source};
-use running_site::SiteOf;
+use running_site::Site;
 use server_edge::NoClock;
 use std::alloc::Global;
 use std::sync::Wait;
@@ -146,7 +146,7 @@ pub fn script<R: Threads + Wait + Sync, I: Source, O: Sink, G: Gate>(
       output_new = O.faults output.new;
     }) }
 {
-    let Ok((site, mut pass)) = SiteOf::start_alone(alloc, names, SHARD_LIMIT) else {
+    let Ok((site, mut pass)) = Site::start_alone(alloc, names, SHARD_LIMIT) else {
         return Ending::OutOfMemory;
     };
     let mut board = Board::empty(alloc);

@@ -2,7 +2,7 @@
 use Rattle.std.proofs.Common.{ℕ, zero, suc, ◌≡◌, ◌<◌, List, [], ◌∷◌, ◌++◌, get_or, take, length, map, refl, ap, arith}
 use Rattle.std.specs.Prelude.{All}
 use Rattle.running_site.specs.declared.site.SiteOf.{SiteOf}
-use Rattle.site_cells.specs.declared.site_cell.SiteCell.{SiteCell}
+use Rattle.running_site.specs.Plain.{SiteCell}
 use Rattle.site_threads.specs.Workers.{number_in, IsWorkerAt, Worker}
 use Rattle.thread_cases.specs.Serving.{IsServed}
 

@@ -7,7 +7,7 @@ use Rattle.exchange_rules.specs.Following.{Writer, cleared}
 use Rattle.running_site.specs.Passes.{writer_of}
 use Rattle.running_site.specs.Sites.{layout_at}
 use Rattle.running_site.specs.declared.site.SiteOf.{SiteOf}
-use Rattle.site_cells.specs.declared.site_cell.SiteCell.{SiteCell}
+use Rattle.running_site.specs.Plain.{SiteCell}
 use Rattle.site_threads.specs.Work.{Call, HasWorked, IsRun, IsUpdateOf}
 use Rattle.site_threads.specs.Workers.{number_in, IsWorkerAt, Worker}
 use Rattle.site_threads.specs.declared.workers.Task.{Task}

@@ -1,14 +1,14 @@
-use Rattle.std.proofs.Common.{◌++◌, ◌∷◌, [], inl, subst}
+use Rattle.std.proofs.Common.{inl, subst}
+use Rattle.std.proofs.Math.Logic.{∥∥₁_map}
 use Rattle.commit_log.specs.Logs.{settled, IsSettled}
 use Rattle.logged_cells.proofs.writing.written.Goals as goal
 
 pub reopen-requires : goal.reopen-requires
-reopen-requires g c = (
-  c.requires.settled.0,
+reopen-requires g c = ∥∥₁_map c.requires.settled (λ s. (
+  s.0,
   c.requires.spelled.0,
-  c.in-Err.ensures.in_flight c.requires.settled.0 c.requires.spelled.0 c.requires.spelled.1
-      c.requires.settled.1,
-)
+  c.in-Err.ensures.in_flight s.0 c.requires.spelled.0 c.requires.spelled.1 s.1,
+))
 
 pub returns-in-Ok-true-clause-stands : goal.returns-in-Ok-true-clause-stands
 returns-in-Ok-true-clause-stands g c = λ steps entries spelled old.

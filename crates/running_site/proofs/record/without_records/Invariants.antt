@@ -4,4 +4,4 @@ use Rattle.running_site.proofs.record.without_records.Given as goal
 
 -- the passes so far
 abbrev pub invariant-loop-one : goal.invariant-loop-one
-invariant-loop-one l = l.made ≡ passes_in l.yielded
+invariant-loop-one g l = l.made ≡ passes_in l.yielded

@@ -1,19 +1,19 @@
 use Rattle.std.proofs.Common.{◌-◌, length, slice_index, refl, sym, ap, ◌∙◌, subst, arith, length-append}
 use Rattle.site_laws.specs.Sealings.{entries_of, names_told, MayAppend}
 use Rattle.turn_table.specs.Calls.{fault_word, known, turn_history}
-use Rattle.site_cells.specs.Values.{log_of_cell}
+use Rattle.logged_cells.specs.Cells.{log_of_cell}
 use Rattle.running_site.proofs.KnownLemmas.{names_of}
 use Rattle.running_site.proofs.SealLemmas.{is-sealed, log-there, sealed-visit}
 use Rattle.running_site.proofs.sealing.seal_ready.Goals as goal
 
 pub seal-requires-clause-turn : goal.seal-requires-clause-turn
-seal-requires-clause-turn c = (c.requires.visit.holding c.args.turn.now refl).in_hand
+seal-requires-clause-turn g c = (c.requires.visit.holding c.args.turn.now refl).in_hand
 
 pub seal-requires-clause-looked : goal.seal-requires-clause-looked
-seal-requires-clause-looked c = (c.requires.visit.holding c.args.turn.now refl).whole
+seal-requires-clause-looked g c = (c.requires.visit.holding c.args.turn.now refl).whole
 
 pub seal-requires-clause-allowed : goal.seal-requires-clause-allowed
-seal-requires-clause-allowed c =
+seal-requires-clause-allowed g c =
     let site = c.args.site.now in
     let k = known c.args.pass.now in
     subst (λ ns. MayAppend ns k.number k.seen c.args.turn.now.cell c.args.sealing)
@@ -22,7 +22,7 @@ seal-requires-clause-allowed c =
     c.requires.allowed)
 
 pub overflow_sub-count : goal.overflow_sub-count
-overflow_sub-count c =
+overflow_sub-count g c =
     let t = c.args.turn.now in
     let u = c.seal.new.turn in
     let from = c.len-from.ensures ∙ ap length (log-there t c.state.result.now c.state.ensures) in
@@ -32,7 +32,7 @@ overflow_sub-count c =
     omega (arith, from, upto, long, both)
 
 pub returns-clause-visit : goal.returns-clause-visit
-returns-clause-visit c =
+returns-clause-visit g c =
     let site = c.args.site.now in
     sealed-visit site.names site.limit (known c.args.pass.now) (known c.seal.new.pass)
     c.args.turn.now c.seal.new.turn c.args.sealing c.requires.visit c.args.cell c.requires.cell
@@ -40,7 +40,7 @@ returns-clause-visit c =
     c.seal.ensures.holds c.seal.ensures.seen c.seal.ensures.about
 
 pub returns-clause-sealed : goal.returns-clause-sealed
-returns-clause-sealed c =
+returns-clause-sealed g c =
     let site = c.args.site.now in
     let t = c.args.turn.now in
     let u = c.seal.new.turn in
@@ -55,7 +55,7 @@ returns-clause-sealed c =
     (omega (arith, from, upto, long, both)) c.push_reserved.ensures.items
 
 pub returns-clause-noted : goal.returns-clause-noted
-returns-clause-noted c =
+returns-clause-noted g c =
     ap (λ words. slice_index words c.seal.new.turn.cell) c.seal.ensures.faults.1
     ∙ (ap (fault_word c.args.pass.now) c.seal.ensures.cell ∙ c.requires.noted)
     ∙ sym c.seal.ensures.faults.0

@@ -5,8 +5,9 @@ use Rattle.turn_table.specs.Calls.{known}
 use Rattle.turn_table.specs.declared.knowledge.Known.{Known}
 use Rattle.running_site.specs.Visits.{IsVisit}
 use Rattle.std.proofs.lemmas.Option.{none-some}
-use Rattle.site_cells.specs.Values.{is_closed, IsSettled}
-use Rattle.running_site.proofs.SealLemmas.{all-sound, if-also}
+use Rattle.logged_cells.specs.Cells.{is_closed, IsSettled}
+use Rattle.running_site.proofs.SealLemmas.{if-also}
+use Rattle.running_site.proofs.LookLemmas.{sound-here}
 use Rattle.running_site.proofs.LeaveLemmas.{gave-later, gave-visit}
 use Rattle.running_site.proofs.writing.VisitTurns.leave.Goals as goal
 
@@ -26,9 +27,12 @@ give-requires-clause-about g c =
 
 pub give-requires-clause-settled : goal.give-requires-clause-settled
 give-requires-clause-settled g c =
-    if-also (λ cell. IsSettled cell × (is_closed cell ≡ false))
-    (λ cell. IsSettled cell ⊎ (is_closed cell ≡ true)) c.in-Some.turn.value (λ y e h. inl h.0)
-    (all-sound c.in-Some.turn.value)
+    let v = c.args.self.now in
+    if-also (λ cell. IsSettled g.D.Disk.seen g.D.Disk.may_leave cell × (is_closed cell ≡ false))
+    (λ cell. IsSettled g.D.Disk.seen g.D.Disk.may_leave cell ⊎ (is_closed cell ≡ true))
+    c.in-Some.turn.value (λ y e h. inl h.0)
+    (sound-here g.D.Disk.seen g.D.Disk.may_leave v.turn c.in-Some.turn
+    (sym c.take.ensures.value ∙ c.in-Some.is) v.sound)
 
 pub give-requires-clause-noted : goal.give-requires-clause-noted
 give-requires-clause-noted g c =
@@ -49,6 +53,7 @@ invariant_of-self g c =
           (gave-visit v.site.now.names v.site.now.limit (known v.pass) (known c.give.new.pass)
           c.in-Some.turn c.give.ensures.gave visit c.give.ensures.free);
       noted = λ t e. absurd (none-some t (sym c.take.ensures.after ∙ e));
+      sound = λ t e. absurd (none-some t (sym c.take.ensures.after ∙ e));
     }
 
 pub returns-in-Some-clause-later : goal.returns-in-Some-clause-later

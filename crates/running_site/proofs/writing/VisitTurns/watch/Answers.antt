@@ -20,13 +20,14 @@ invariant_of-self g c =
       visit = subst (λ k. IsVisit v.site.now.names v.site.now.limit k v.turn)
           (sym c.watch.ensures.known) v.visit;
       noted = λ t e. ap (λ words. slice_index words t.cell) c.watch.ensures.faults ∙ v.noted t e;
+      sound = v.sound;
     }
 
 pub returns-clause-alone : goal.returns-clause-alone
 returns-clause-alone g c = λ one.
     let v = c.args.self.now in
     let k = known v.pass in
-    lone-all v.site.now.names v.site.now.limit k v.visit.knowing
+    lone-all g.D.Disk.seen g.D.Disk.may_leave g.D.Disk.faults v.site.now.names v.site.now.limit k v.visit.knowing
     (v.numbered ∙ (v.site.now.numbered ∙ ap numbers_to one))
     (wide-at k v.pass.seat.table_id v.site.now.table.board.shared.table_id
     v.site.now.table.cells (cells_in v.site.now.names + 1) v.pass.wide v.seated
