@@ -23,6 +23,8 @@ mod of_folders;
 #[cfg(test)]
 mod of_logged_cells;
 #[cfg(test)]
+mod of_logged_sites;
+#[cfg(test)]
 mod of_memory_disk;
 #[cfg(test)]
 mod of_refusals;
